@@ -1,0 +1,37 @@
+-- Facts about finite maps and their entries, for the laws of worlds.
+use Rattle.std.proofs.Common.{◌≡◌, ℕ, ◌+◌, List, [], ◌∷◌, map, length, Bool, true, false, cond, refl, sym, ◌∙◌, ap, subst, arith}
+use Rattle.std.specs.Prelude.{if◌then◌else◌, ◌||◌, ◌&&◌, ◌==◌, Option, Some, None}
+use Rattle.std.proofs.lemmas.Bool.Decides.{nat_tests}
+use Rattle.std.specs.Option.{option_map}
+use Rattle.std.specs.List.{list_any}
+use Rattle.std.specs.declared.cmp.Ordering.{Ordering}
+use Rattle.std.specs.declared.cmp.Ordering.TheVariants.{Less, Equal, Greater}
+use Rattle.std.specs.Ordering.{nat_cmp, eq_by_cmp, is_eq, ordering_then}
+use Rattle.std.specs.Cmp.{IsTotalOrder, nat_cmp_total}
+use Rattle.std.specs.Cmp.Lexicographic.{slice_cmp, nat_list_cmp_total}
+use Rattle.std.specs.FinMap.{FinMap, get, insert, remove, empty, entries, find, put, gets, entries-insert, get-entries, from_entries, same_map, IsAntisymmetric, nat_cmp-IsAntisymmetric, slice_cmp-IsAntisymmetric, get-from_entries, get-insert}
+use Rattle.std.specs.FinMap.Entries.{by_order}
+use Rattle.cfs_ids.specs.Maps.{Names, Numbers, within, how_many, map_values}
+
+module _ {K X : Type 0} (R : K → K → Ordering) where
+  -- a new key adds what the test says of it
+  pub how_many-put : (p : K × X → Bool) (k : K) (v : X) (es : List (K × X)) → find R k es ≡ None → how_many p (put R k v es) ≡ how_many p es + cond (p (k, v)) 1 0
+  how_many-put p k v [] none = grind arith
+  how_many-put p k v (e ∷ es) none = grind (arith, how_many-put p k v es)
+
+  pub list_any-put : (p : K × X → Bool) (k : K) (v : X) (es : List (K × X)) → find R k es ≡ None → list_any p (put R k v es) ≡ (p (k, v) || list_any p es)
+  list_any-put p k v [] none = grind arith
+  list_any-put p k v (e ∷ es) none = grind (arith, list_any-put p k v es)
+
+-- what is found under a name in a directory is what the rows have under the key
+pub find-within : {X Y : Type 0} (f : X → Y) (d : ℕ) (name : List ℕ) (es : List (List ℕ × X)) → find (slice_cmp nat_cmp) name (map (λ e. (e.0, f e.1)) (within d es)) ≡ option_map f (find (slice_cmp nat_cmp) (d ∷ name) es)
+find-within f d name [] = refl
+find-within f d name (([], x) ∷ es) = find-within f d name es
+find-within f d name ((k ∷ m, x) ∷ es) = grind (arith, nat_tests, find-within f d name es)
+
+pub find-map : {K X Y : Type 0} (R : K → K → Ordering) (f : K → X → Y) (q : K) (es : List (K × X)) → ((k : K) → R q k ≡ Equal → q ≡ k) → find R q (map (λ e. (e.0, f e.0 e.1)) es) ≡ option_map (f q) (find R q es)
+find-map R f q [] same = refl
+find-map R f q (e ∷ es) same = grind (arith, find-map R f q es same, same e.0)
+
+pub get-map_values : {K X Y : Type 0} {R : K → K → Ordering} (o : IsTotalOrder R) → ((x y : K) → R x y ≡ Equal → x ≡ y) → (f : K → X → Y) (m : FinMap R X) (q : K) → get (map_values f m) q ≡ option_map (f q) (get m q)
+get-map_values {R = R} o same f m q = get-from_entries o (map (λ e. (e.0, f e.0 e.1)) (entries m)) q ∙ find-map R f q (entries m) (same q) ∙ ap (option_map (f q)) (sym (get-entries m q))

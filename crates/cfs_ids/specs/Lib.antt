@@ -1,0 +1,6 @@
+pub mod Errnos
+pub mod Maps
+pub mod NameFaults
+pub mod Names
+pub mod Namespace
+pub mod Rows

@@ -1,0 +1,18 @@
+//! The words of the service: identifiers, names, times, calls and their replies.
+#![tactic(auto)]
+
+mod call;
+mod errno;
+mod ids;
+mod memory;
+mod name;
+mod rows;
+mod time;
+
+pub use call::{Call, Reply};
+pub use errno::{Errno, errno_of, errno_text};
+pub use ids::{Actor, At, Client, DirId, FileId, Node, PlaceNo, Stamp};
+pub use memory::NoMemory;
+pub use name::{Name, NameFault};
+pub use rows::RowList;
+pub use time::{Ts, later, number_of};
