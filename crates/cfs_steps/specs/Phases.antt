@@ -1,0 +1,120 @@
+-- The calls, step by step: what each asks next, and what it makes of the answer.
+use Rattle.std.specs.Prelude.{ℕ, ◌+◌, List as Bytes, Option, Some, None}
+use Rattle.cfs_ids.specs.declared.ids.DirId.{DirId}
+use Rattle.cfs_ids.specs.declared.ids.FileId.{FileId}
+use Rattle.cfs_ids.specs.declared.ids.Client.{Client}
+use Rattle.cfs_ids.specs.declared.ids.PlaceNo.{PlaceNo}
+use Rattle.cfs_ids.specs.declared.ids.Stamp.{Stamp}
+use Rattle.cfs_ids.specs.declared.ids.At.{At}
+use Rattle.cfs_ids.specs.declared.ids.At.TheVariants.{Step, Before}
+use Rattle.cfs_ids.specs.declared.ids.Node.{Node}
+use Rattle.cfs_ids.specs.declared.ids.Node.TheVariants.{File}
+use Rattle.cfs_ids.specs.declared.errno.Errno.{Errno}
+use Rattle.cfs_ids.specs.declared.errno.Errno.TheVariants.{Enoent, Eexist}
+use Rattle.cfs_ids.specs.declared.call.Call.{Call}
+use Rattle.cfs_ids.specs.declared.call.Call.TheVariants.{Lookup, List as ListCall, Create}
+use Rattle.cfs_ids.specs.declared.call.Reply.{Reply}
+use Rattle.cfs_ids.specs.declared.call.Reply.TheVariants.{Moved, Node as NodeReply, Rows as RowsReply, Refused}
+use Rattle.cfs_steps.specs.declared.ask.Ask.{Ask}
+use Rattle.cfs_steps.specs.declared.ask.Ask.TheVariants.{Read, List as ListAsk, Insert, Put, Settle, TakeBack, End}
+use Rattle.cfs_steps.specs.declared.answer.Answer.{Answer}
+use Rattle.cfs_steps.specs.declared.answer.Answer.TheVariants.{Absent, Found, NoDir, Rows, New, Exists, Done, None as NoneAnswer}
+use Rattle.cfs_steps.specs.declared.call_done.CallDone.{CallDone}
+use Rattle.cfs_steps.specs.declared.entry.Entry.{Entry}
+
+-- where a call is
+pub data Phase : Type 0 where
+  -- it has made no step
+  Asking : Call → Phase
+  -- a create that has put its file; ts is the number of the put
+  Inserting : DirId → Bytes ℕ → FileId → (ts : ℕ) → (first : Stamp) → Phase
+  -- a create that has set its row at a step
+  Settling : DirId → Bytes ℕ → FileId → (ts : ℕ) → (first at : Stamp) → Phase
+  -- a create that was refused at a step
+  TakingBack : DirId → Bytes ℕ → FileId → Errno → (first at : Stamp) → Phase
+  Finished : CallDone → Phase
+
+-- the place of the store with the index
+abbrev pub store_place : ℕ → PlaceNo
+store_place index = record { 0 = 64 + index }
+
+abbrev pub first_ask : Client → ℕ → Call → Ask
+first_ask client index (Lookup dir name) = Read dir name
+first_ask client index (ListCall dir) = ListAsk dir
+first_ask client index (Create dir name) = Put client (store_place index) dir
+
+-- what the call asks next; index is that of the store of the client's next put
+abbrev pub ask_of : Client → ℕ → Phase → Ask
+ask_of client index (Asking call) = first_ask client index call
+ask_of client index (Inserting dir name file ts first) = Insert client dir name (File file) ts
+ask_of client index (Settling dir name file ts first at) = Settle (File file)
+ask_of client index (TakingBack dir name file errno first at) = TakeBack client (File file)
+ask_of client index (Finished done) = End client
+
+-- ---- what the call makes of an answer
+abbrev pub stamp_of : PlaceNo → Entry → Stamp
+stamp_of place entry = record { number = entry.number; place = place }
+
+-- a call that ends without a move: its reply holds before the step `at`
+abbrev pub replied : Call → (first at last : Stamp) → Reply → Phase
+replied call first at last reply = Finished (record { call = call; first = first; at = Before at; last = last; reply = reply; ts = 0; made = None })
+
+abbrev pub heard_first : Call → Stamp → Answer → Phase
+heard_first (Lookup dir name) s (Found node stamp) = replied (Lookup dir name) s s s (NodeReply node)
+heard_first (Lookup dir name) s Absent = replied (Lookup dir name) s s s (Refused Enoent)
+heard_first (ListCall dir) s (Rows rows) = replied (ListCall dir) s s s (RowsReply rows)
+heard_first (ListCall dir) s NoDir = replied (ListCall dir) s s s (Refused Enoent)
+heard_first (Create dir name) s (New (File file)) = Inserting dir name file s.number s
+heard_first call s answer = Asking call
+
+abbrev pub heard_insert : DirId → Bytes ℕ → FileId → (ts : ℕ) → (first s : Stamp) → Answer → Phase
+heard_insert dir name file ts first s (Done replaced) = Settling dir name file ts first s
+heard_insert dir name file ts first s Exists = TakingBack dir name file Eexist first s
+heard_insert dir name file ts first s NoDir = TakingBack dir name file Enoent first s
+heard_insert dir name file ts first s answer = Inserting dir name file ts first
+
+-- a call that ends with its move, at the step `at`
+abbrev pub moved : DirId → Bytes ℕ → FileId → (ts : ℕ) → (first at last : Stamp) → Phase
+moved dir name file ts first at last = Finished (record { call = Create dir name; first = first; at = Step at; last = last; reply = Moved; ts = ts; made = Some (File file) })
+
+abbrev pub heard_as : Phase → Stamp → Answer → Phase
+heard_as (Asking call) s answer = heard_first call s answer
+heard_as (Inserting dir name file ts first) s answer = heard_insert dir name file ts first s answer
+heard_as (Settling dir name file ts first at) s answer = moved dir name file ts first at s
+heard_as (TakingBack dir name file errno first at) s answer = replied (Create dir name) first at s (Refused errno)
+heard_as (Finished done) s answer = Finished done
+
+-- the call after the entry of its step
+abbrev pub heard : Phase → PlaceNo → Entry → Phase
+heard phase place entry = heard_as phase (stamp_of place entry) entry.answer
+
+abbrev pub done_of : Phase → Option CallDone
+done_of (Finished done) = Some done
+done_of _ = None
+
+-- ---- the answers that the tables list for what is asked
+abbrev pub AnswersFirst : Call → Answer → Type 0
+AnswersFirst (Lookup dir name) (Found node stamp) = Unit {0}
+AnswersFirst (Lookup dir name) Absent = Unit {0}
+AnswersFirst (ListCall dir) (Rows rows) = Unit {0}
+AnswersFirst (ListCall dir) NoDir = Unit {0}
+AnswersFirst (Create dir name) (New (File file)) = Unit {0}
+AnswersFirst call answer = ⊥
+
+abbrev pub AnswersInsert : Answer → Type 0
+AnswersInsert (Done replaced) = Unit {0}
+AnswersInsert Exists = Unit {0}
+AnswersInsert NoDir = Unit {0}
+AnswersInsert answer = ⊥
+
+abbrev pub AnswersChange : Answer → Type 0
+AnswersChange (Done replaced) = Unit {0}
+AnswersChange NoneAnswer = Unit {0}
+AnswersChange answer = ⊥
+
+abbrev pub Answers : Phase → Answer → Type 0
+Answers (Asking call) answer = AnswersFirst call answer
+Answers (Inserting dir name file ts first) answer = AnswersInsert answer
+Answers (Settling dir name file ts first at) answer = AnswersChange answer
+Answers (TakingBack dir name file errno first at) answer = AnswersChange answer
+Answers (Finished done) answer = ⊥

@@ -1,0 +1,46 @@
+//! The machines that make a call step by step.
+ghost use Rattle.std.specs.Prelude.{◌≡◌, ℕ, IfOk, OnOk, OnErr, IsNone, Some};
+ghost use Rattle.std.specs.Option.{option_copied};
+ghost use Rattle.cfs_ids.specs.declared.ids.Client.{Client};
+ghost use Rattle.cfs_steps.specs.Asks.{place_of};
+ghost use Rattle.cfs_steps.specs.Phases.{Phase, ask_of, heard, done_of, Answers};
+
+use crate::ask::Ask;
+use crate::call_done::CallDone;
+use crate::entry::Entry;
+use cfs_ids::{NoMemory, PlaceNo, Ts};
+
+/// A call on its way. Its rule is that of its phase, which docs/protocol.md gives call by call.
+pub trait Machine {
+    // The client that makes the call.
+    ghost client: { Self → Client };
+
+    // The index of the store of the client's next put.
+    ghost put_index: { Self → ℕ };
+
+    // Where the call is.
+    ghost phase: { Self → Phase };
+
+    /// The place of the next ask.
+    fn next_place(&self) -> PlaceNo
+        requires { IsNone (done_of (phase self.now)) }
+        ensures { result ≡ place_of (ask_of (client self.now) (put_index self.now) (phase self.now)) };
+
+    /// The next ask. `last` is the client's last number.
+    fn ask(&self, last: Ts) -> Result<Ask, NoMemory>
+        requires { IsNone (done_of (phase self.now)) }
+        ensures { IfOk result (λ ask. ask ≡ ask_of (client self.now) (put_index self.now) (phase self.now)) };
+
+    /// Takes the entry of the step that was asked. On Err the machine is as before.
+    fn hear(&mut self, place: PlaceNo, entry: &Entry) -> Result<(), NoMemory>
+        requires going { IsNone (done_of (phase self.old)) }
+        requires answers { Answers (phase self.old) entry.now.answer }
+        ensures ok { OnOk result (phase self.new ≡ heard (phase self.old) place entry.now) }
+        ensures err { OnErr result (phase self.new ≡ phase self.old) }
+        ensures same_client { client self.new ≡ client self.old }
+        ensures same_index { put_index self.new ≡ put_index self.old };
+
+    /// The finished call. None comes exactly where the call has not ended.
+    fn finished(&self) -> Option<&CallDone>
+        ensures { option_copied result ≡ done_of (phase self.now) };
+}
