@@ -1,0 +1,7 @@
+pub mod Facts
+pub mod Histories
+pub mod Known
+pub mod Legal
+pub mod Places
+pub mod Trees
+pub mod Worlds

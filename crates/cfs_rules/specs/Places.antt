@@ -1,0 +1,126 @@
+-- The tables of the places: what an ask is answered, what it leaves and what it moved.
+use Rattle.std.specs.Prelude.{ℕ, ◌+◌, ◌*◌, List, [], ◌∷◌, ◌++◌, map, max, Option, Some, None, if◌then◌else◌, ◌==◌}
+use Rattle.std.specs.FinMap.{get, insert, remove, empty, entries, from_entries}
+use Rattle.cfs_ids.specs.declared.ids.DirId.{DirId}
+use Rattle.cfs_ids.specs.declared.ids.FileId.{FileId}
+use Rattle.cfs_ids.specs.declared.ids.Client.{Client}
+use Rattle.cfs_ids.specs.declared.ids.Stamp.{Stamp}
+use Rattle.cfs_ids.specs.declared.ids.Node.{Node}
+use Rattle.cfs_ids.specs.declared.ids.Node.TheVariants.{File}
+use Rattle.cfs_ids.specs.declared.call.Call.TheVariants.{Create}
+use Rattle.cfs_ids.specs.Maps.{Names, Numbers, row_key, within}
+use Rattle.cfs_ids.specs.Namespace.{is_dir}
+use Rattle.cfs_steps.specs.declared.contents.Row.{Row}
+use Rattle.cfs_steps.specs.declared.contents.DirAttr.{DirAttr}
+use Rattle.cfs_steps.specs.declared.contents.DirRec.{DirRec}
+use Rattle.cfs_steps.specs.declared.contents.FileRec.{FileRec}
+use Rattle.cfs_steps.specs.declared.ask.Ask.{Ask}
+use Rattle.cfs_steps.specs.declared.ask.Ask.TheVariants.{Read, List as ListAsk, Insert, Put, Settle, TakeBack, End}
+use Rattle.cfs_steps.specs.declared.answer.Answer.{Answer}
+use Rattle.cfs_steps.specs.declared.answer.Answer.TheVariants.{Absent, Found, NoDir, Rows, New, Exists, Done, None as NoneAnswer}
+use Rattle.cfs_steps.specs.declared.moves.Moved.{Moved}
+use Rattle.cfs_steps.specs.declared.moves.Moved.TheVariants.{Move}
+
+-- a shard has rows and records of directories
+pub record Shard : Type 0 where
+  pub rows : Names Row
+  pub recs : Numbers DirRec
+
+-- a store has records of files
+abbrev pub Store : Type 0
+Store = Numbers FileRec
+
+-- the roster has the clients that ended
+abbrev pub Roster : Type 0
+Roster = List Client
+
+abbrev pub empty_attr : DirAttr
+empty_attr = record { children = 0; subdirs = 0; time = 0 }
+
+-- shard 0 opens with the root's record
+abbrev pub opening_shard : Shard
+opening_shard = record { rows = empty; recs = insert empty 0 (record { attr = empty_attr }) }
+
+-- what serving an ask gives
+pub record Served (Contents : Type 0) : Type 0 where
+  pub answer : Answer
+  pub contents : Contents
+  pub moved : Option Moved
+
+abbrev pub unmoved : {C : Type 0} → C → Answer → Served C
+unmoved c a = record { answer = a; contents = c; moved = None }
+
+-- ---- the shard
+abbrev pub read_row : Option Row → Answer
+read_row None = Absent
+read_row (Some row) = Found row.node row.stamp
+
+-- the nodes of a directory, by rising name
+abbrev pub names_of : Shard → ℕ → Names Node
+names_of s d = from_entries (map (λ e. (e.0, e.1.node)) (within d (entries s.rows)))
+
+abbrev pub list_rows : Shard → ℕ → Option DirRec → Answer
+list_rows s d None = NoDir
+list_rows s d (Some r) = Rows (entries (names_of s d))
+
+-- one more row that names the node, at a time
+abbrev pub updated : DirAttr → Node → ℕ → DirAttr
+updated attr node ts = record { children = attr.children + 1; subdirs = attr.subdirs + (if is_dir node then 1 else 0); time = max attr.time ts }
+
+abbrev pub with_row : Shard → Stamp → DirId → List ℕ → Node → ℕ → DirRec → Shard
+with_row s at dir name node ts r = record {
+  rows = insert s.rows (row_key dir name) (record { node = node; stamp = at });
+  recs = insert s.recs dir.0 (record { attr = updated r.attr node ts });
+}
+
+abbrev pub inserted : Shard → Stamp → Client → DirId → List ℕ → Node → ℕ → Option DirRec → Option Row → Served Shard
+inserted s at client dir name node ts None row = unmoved s NoDir
+inserted s at client dir name node ts (Some r) (Some row) = unmoved s Exists
+inserted s at client dir name node ts (Some r) None = record {
+  answer = Done None;
+  contents = with_row s at dir name node ts r;
+  moved = Some (Move (record { client = client; call = Create dir name; ts = ts; made = Some node }));
+}
+
+-- the table of the shard; `at` is the stamp of the step
+abbrev pub serve_shard : Shard → Stamp → Ask → Served Shard
+serve_shard s at (Read dir name) = unmoved s (read_row (get s.rows (row_key dir name)))
+serve_shard s at (ListAsk dir) = unmoved s (list_rows s dir.0 (get s.recs dir.0))
+serve_shard s at (Insert client dir name node ts) = inserted s at client dir name node ts (get s.recs dir.0) (get s.rows (row_key dir name))
+serve_shard s at _ = unmoved s NoneAnswer
+
+-- ---- the store
+-- the file that a step with this number makes in the store with this index
+abbrev pub file_of : ℕ → ℕ → FileId
+file_of index number = record { 0 = 64 * number + index }
+
+abbrev pub settle_owner : Store → FileId → FileRec → Option Client → Served Store
+settle_owner s file r None = unmoved s NoneAnswer
+settle_owner s file r (Some c) = unmoved (insert s file.0 (record r { owner = None })) (Done None)
+
+abbrev pub settled : Store → FileId → Option FileRec → Served Store
+settled s file None = unmoved s NoneAnswer
+settled s file (Some r) = settle_owner s file r r.owner
+
+abbrev pub take_owned : Store → Client → FileId → Option Client → Served Store
+take_owned s client file None = unmoved s NoneAnswer
+take_owned s client file (Some c) = if c.0 == client.0 then unmoved (remove s file.0) (Done None) else unmoved s NoneAnswer
+
+abbrev pub taken_back : Store → Client → FileId → Option FileRec → Served Store
+taken_back s client file None = unmoved s NoneAnswer
+taken_back s client file (Some r) = take_owned s client file r.owner
+
+abbrev pub put_file : Store → FileId → Client → DirId → ℕ → Served Store
+put_file s file client home number = unmoved (insert s file.0 (record { size = 0; time = number; owner = Some client; home = home })) (New (File file))
+
+-- the table of the store with this index
+abbrev pub serve_store : ℕ → Store → Stamp → Ask → Served Store
+serve_store index s at (Put client place home) = put_file s (file_of index at.number) client home at.number
+serve_store index s at (Settle (File file)) = settled s file (get s file.0)
+serve_store index s at (TakeBack client (File file)) = taken_back s client file (get s file.0)
+serve_store index s at _ = unmoved s NoneAnswer
+
+-- ---- the roster
+abbrev pub serve_roster : Roster → Ask → Served Roster
+serve_roster r (End client) = unmoved (r ++ client ∷ []) (Done None)
+serve_roster r _ = unmoved r NoneAnswer
