@@ -1,0 +1,246 @@
+//! The machine of a writing call.
+ghost use Rattle.std.specs.Prelude.{◌≡◌, ◌<◌, ◌+◌, ℕ, IsTrue, IfOk, OnOk, OnErr, IsNone, Some, None};
+ghost use Rattle.cfs_steps.specs.Asks.{place_of, home_of};
+ghost use Rattle.cfs_steps.specs.Phases.{Asking, Finished, replied, moved as moved_phase, heard_insert, AnswersInsert, first_ask, ask_of, heard_as, Answers, heard, done_of};
+ghost use Rattle.cfs_writer.specs.Writers.{phase_of, is_writing, writes};
+
+use crate::state::{Creation, WriterState};
+use cfs_ids::{At, Call, Client, Errno, FileId, NoMemory, Node, PlaceNo, Reply, Stamp, Ts};
+use cfs_steps::{Answer, Ask, CallDone, Entry, Machine};
+
+/// A create on its way. `put_index` is the index of the store of the client's next put.
+#[derive(Debug, Drop)]
+pub struct Writer {
+    client: Client,
+    put_index: u32,
+    state: WriterState,
+    ghost writing: { IsTrue (writes state) },
+    ghost small: { put_index < 64 },
+}
+
+impl Writer {
+    /// The call of this client, which is a create and has made no step.
+    pub fn start(client: Client, call: Call, put_index: u32) -> Writer
+        requires writing { IsTrue (is_writing call) }
+        requires small { put_index < 64 }
+        ensures phase { ⟦<Writer as Machine>⟧.phase result ≡ Asking call }
+        ensures client { ⟦<Writer as Machine>⟧.client result ≡ client }
+        ensures put_index { ⟦<Writer as Machine>⟧.put_index result ≡ put_index }
+    {
+        Writer {
+            client,
+            put_index,
+            state: WriterState::Asking(call),
+        }
+    }
+}
+
+// The ask of a state.
+fn ask_in(client: Client, put_index: u32, state: &WriterState) -> Result<Ask, NoMemory>
+    requires going { IsNone (done_of (phase_of state.now)) }
+    requires writing { IsTrue (writes state.now) }
+    requires small { put_index < 64 }
+    ensures { IfOk result (λ ask. ask ≡ ask_of client put_index (phase_of state.now)) }
+{
+    match state {
+        WriterState::Asking(Call::Create { dir, .. }) => Ok(Ask::Put {
+            client,
+            at: PlaceNo(64 + put_index),
+            home: *dir,
+        }),
+        WriterState::Asking(_) | WriterState::Finished(_) => unreachable!(),
+        WriterState::Inserting { creation, ts } => Ok(Ask::Insert {
+            client,
+            dir: creation.dir,
+            name: creation.name.copy()?,
+            node: Node::File(creation.file),
+            ts: *ts,
+        }),
+        WriterState::Settling { creation, .. } => Ok(Ask::Settle {
+            node: Node::File(creation.file),
+        }),
+        WriterState::TakingBack { creation, .. } => Ok(Ask::TakeBack {
+            client,
+            node: Node::File(creation.file),
+        }),
+    }
+}
+
+// The store of a file.
+fn store_of(file: FileId) -> PlaceNo
+    ensures { result ≡ home_of (Node.File file) }
+{
+    PlaceNo(64 + (file.0 % 64) as u32)
+}
+
+// The place of the ask of a state.
+fn place_in(client: Client, put_index: u32, state: &WriterState) -> PlaceNo
+    requires going { IsNone (done_of (phase_of state.now)) }
+    requires writing { IsTrue (writes state.now) }
+    requires small { put_index < 64 }
+    ensures { result ≡ place_of (ask_of client put_index (phase_of state.now)) }
+{
+    match state {
+        WriterState::Asking(_) => PlaceNo(64 + put_index),
+        WriterState::Finished(_) => unreachable!(),
+        WriterState::Inserting { creation, .. } => PlaceNo((creation.dir.0 % 64) as u32),
+        WriterState::Settling { creation, .. } | WriterState::TakingBack { creation, .. } => {
+            store_of(creation.file)
+        }
+    }
+}
+
+// The state after the put.
+fn after_put(call: &Call, step: Stamp, answer: &Answer) -> Result<WriterState, NoMemory>
+    requires writing { IsTrue (is_writing call.now) }
+    requires listed { Answers (Asking call.now) answer.now }
+    ensures state { IfOk result (λ state. phase_of state ≡ heard_as (Asking call.now) step answer.now) }
+    ensures writing { IfOk result (λ state. IsTrue (writes state)) }
+{
+    match (call, answer) {
+        (Call::Create { dir, name }, Answer::New(Node::File(file))) => {
+            let creation = Creation {
+                dir: *dir,
+                name: name.copy()?,
+                file: *file,
+                first: step,
+            };
+            Ok(WriterState::Inserting {
+                creation,
+                ts: step.number,
+            })
+        }
+        _ => unreachable!(),
+    }
+}
+
+impl Creation {
+    // A copy.
+    fn copy(&self) -> Result<Creation, NoMemory>
+        ensures { IfOk result (λ copy. copy ≡ self.now) }
+    {
+        Ok(Creation {
+            dir: self.dir,
+            name: self.name.copy()?,
+            file: self.file,
+            first: self.first,
+        })
+    }
+
+    // The create, ended without a move: its reply holds before the step `at`.
+    fn refused(&self, errno: Errno, at: Stamp, last: Stamp) -> Result<CallDone, NoMemory>
+        ensures { IfOk result (λ done. Finished done ≡ replied (Call.Create self.now.dir self.now.name) self.now.first at last (Reply.Refused errno)) }
+    {
+        Ok(CallDone {
+            call: Call::Create {
+                dir: self.dir,
+                name: self.name.copy()?,
+            },
+            first: self.first,
+            at: At::Before(at),
+            last,
+            reply: Reply::Refused(errno),
+            ts: 0,
+            made: None,
+        })
+    }
+
+    // The create, ended with its move at the step `at`.
+    fn moved(&self, ts: Ts, at: Stamp, last: Stamp) -> Result<CallDone, NoMemory>
+        ensures { IfOk result (λ done. Finished done ≡ moved_phase self.now.dir self.now.name self.now.file ts self.now.first at last) }
+    {
+        Ok(CallDone {
+            call: Call::Create {
+                dir: self.dir,
+                name: self.name.copy()?,
+            },
+            first: self.first,
+            at: At::Step(at),
+            last,
+            reply: Reply::Moved,
+            ts,
+            made: Some(Node::File(self.file)),
+        })
+    }
+}
+
+// The state after the insert.
+fn after_insert(creation: &Creation, ts: Ts, step: Stamp, answer: &Answer) -> Result<WriterState, NoMemory>
+    requires { AnswersInsert answer.now }
+    ensures state { IfOk result (λ state. phase_of state ≡ heard_insert creation.now.dir creation.now.name creation.now.file ts creation.now.first step answer.now) }
+    ensures writing { IfOk result (λ state. IsTrue (writes state)) }
+{
+    let creation = creation.copy()?;
+    match answer {
+        Answer::Done(_) => Ok(WriterState::Settling {
+            creation,
+            ts,
+            at: step,
+        }),
+        Answer::Exists => Ok(WriterState::TakingBack {
+            creation,
+            errno: Errno::Eexist,
+            at: step,
+        }),
+        Answer::NoDir => Ok(WriterState::TakingBack {
+            creation,
+            errno: Errno::Enoent,
+            at: step,
+        }),
+        _ => unreachable!(),
+    }
+}
+
+// The state after a step.
+fn state_after(state: &WriterState, step: Stamp, answer: &Answer) -> Result<WriterState, NoMemory>
+    requires writing { IsTrue (writes state.now) }
+    requires listed { Answers (phase_of state.now) answer.now }
+    ensures state { IfOk result (λ after. phase_of after ≡ heard_as (phase_of state.now) step answer.now) }
+    ensures writing { IfOk result (λ after. IsTrue (writes after)) }
+{
+    match state {
+        WriterState::Asking(call) => after_put(call, step, answer),
+        WriterState::Inserting { creation, ts } => after_insert(creation, *ts, step, answer),
+        WriterState::Settling { creation, ts, at } => {
+            Ok(WriterState::Finished(creation.moved(*ts, *at, step)?))
+        }
+        WriterState::TakingBack {
+            creation,
+            errno,
+            at,
+        } => Ok(WriterState::Finished(creation.refused(*errno, *at, step)?)),
+        WriterState::Finished(_) => unreachable!(),
+    }
+}
+
+impl Machine for Writer {
+    ghost client = { λ writer. writer.client };
+
+    ghost put_index = { λ writer. writer.put_index };
+
+    ghost phase = { λ writer. phase_of writer.state };
+
+    fn next_place(&self) -> PlaceNo {
+        place_in(self.client, self.put_index, &self.state)
+    }
+
+    fn ask(&self, _last: Ts) -> Result<Ask, NoMemory> {
+        ask_in(self.client, self.put_index, &self.state)
+    }
+
+    fn hear(&mut self, place: PlaceNo, entry: &Entry) -> Result<(), NoMemory> {
+        let step = Stamp {
+            number: entry.number,
+            place,
+        };
+        self.state = state_after(&self.state, step, &entry.answer)?;
+        Ok(())
+    }
+
+    fn finished(&self) -> Option<&CallDone> {
+        match &self.state {
+            WriterState::Finished(done) => Some(done),
+            _ => None,
+        }
+    }
+}
