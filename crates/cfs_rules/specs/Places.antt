@@ -1,10 +1,11 @@
 -- The tables of the places: what an ask is answered, what it leaves and what it moved.
-use Rattle.std.specs.Prelude.{ℕ, ◌+◌, ◌*◌, List, [], ◌∷◌, ◌++◌, map, max, Option, Some, None, if◌then◌else◌, ◌==◌}
+use Rattle.std.specs.Prelude.{ℕ, Bool, ◌||◌, nat_le, ◌+◌, ◌*◌, List, [], ◌∷◌, ◌++◌, map, max, Option, Some, None, if◌then◌else◌, ◌==◌}
 use Rattle.std.specs.FinMap.{get, insert, remove, empty, entries, from_entries}
 use Rattle.cfs_ids.specs.declared.ids.DirId.{DirId}
 use Rattle.cfs_ids.specs.declared.ids.FileId.{FileId}
 use Rattle.cfs_ids.specs.declared.ids.Client.{Client}
 use Rattle.cfs_ids.specs.declared.ids.Stamp.{Stamp}
+use Rattle.cfs_ids.specs.declared.ids.Actor.{Actor}
 use Rattle.cfs_ids.specs.declared.ids.Node.{Node}
 use Rattle.cfs_ids.specs.declared.ids.Node.TheVariants.{File}
 use Rattle.cfs_ids.specs.declared.call.Call.TheVariants.{Create}
@@ -18,6 +19,7 @@ use Rattle.cfs_steps.specs.declared.ask.Ask.{Ask}
 use Rattle.cfs_steps.specs.declared.ask.Ask.TheVariants.{Read, List as ListAsk, Insert, Put, Settle, TakeBack, End}
 use Rattle.cfs_steps.specs.declared.answer.Answer.{Answer}
 use Rattle.cfs_steps.specs.declared.answer.Answer.TheVariants.{Absent, Found, NoDir, Rows, New, Exists, Done, None as NoneAnswer}
+use Rattle.cfs_steps.specs.declared.entry.Entry.{Entry}
 use Rattle.cfs_steps.specs.declared.moves.Moved.{Moved}
 use Rattle.cfs_steps.specs.declared.moves.Moved.TheVariants.{Move}
 
@@ -49,6 +51,18 @@ pub record Served (Contents : Type 0) : Type 0 where
 
 abbrev pub unmoved : {C : Type 0} → C → Answer → Served C
 unmoved c a = record { answer = a; contents = c; moved = None }
+
+-- the entry of a step: who made it, its number, and what serving gave
+abbrev pub entry_by : {C : Type 0} → Actor → ℕ → Ask → Served C → Entry
+entry_by actor number ask s = record { actor = actor; number = number; ask = ask; answer = s.answer; moved = s.moved }
+
+-- a step's number: one more than the greater of the actor's last and the place's last
+abbrev pub number_after : ℕ → ℕ → ℕ
+number_after last place_last = max last place_last + 1
+
+-- a place serves nothing more: its log has 1,048,576 entries, or its last number or the actor's is 2^40 or more
+abbrev pub is_full : (count last place_last : ℕ) → Bool
+is_full count last place_last = nat_le 1048576 count || nat_le 1099511627776 (max last place_last)
 
 -- ---- the shard
 abbrev pub read_row : Option Row → Answer

@@ -14,7 +14,7 @@ use Rattle.cfs_steps.specs.declared.call_done.CallDone.{CallDone}
 use Rattle.cfs_steps.specs.declared.call_done.ClientCalls.{ClientCalls}
 use Rattle.cfs_steps.specs.Asks.{place_of}
 use Rattle.cfs_steps.specs.Phases.{Phase, Asking, Inserting, Settling, TakingBack, Finished, ask_of, heard}
-use Rattle.cfs_rules.specs.Places.{Shard, Store, Roster, Served, serve_shard, serve_store, serve_roster, opening_shard}
+use Rattle.cfs_rules.specs.Places.{Shard, Store, Roster, Served, entry_by, number_after, serve_shard, serve_store, serve_roster, opening_shard}
 
 abbrev pub client_of : ℕ → Client
 client_of c = record { 0 = c }
@@ -97,7 +97,7 @@ opening calls = record {
 }
 
 abbrev pub entry_of : {C : Type 0} → ℕ → ℕ → Ask → Served C → Entry
-entry_of c number ask s = record { actor = ClientActor (client_of c); number = number; ask = ask; answer = s.answer; moved = s.moved }
+entry_of c number ask s = entry_by (ClientActor (client_of c)) number ask s
 
 abbrev pub set_client : (ℕ → Progress) → ℕ → Progress → ℕ → Progress
 set_client clients c p i = if i == c then p else clients i
@@ -126,10 +126,6 @@ after_roster w c p ask number s = record w {
   clients = set_client w.clients c (hears p (place_of ask) (entry_of c number ask s));
   run = (place_of ask, entry_of c number ask s) ∷ w.run;
 }
-
--- a step's number: one more than the greater of the actor's last and the place's last
-abbrev pub number_after : ℕ → ℕ → ℕ
-number_after last place_last = max last place_last + 1
 
 abbrev pub step_shard : World → ℕ → Progress → Ask → ℕ → World
 step_shard w c p ask number = after_shard w c p ask number (serve_shard w.shard (record { number = number; place = record { 0 = 0 } }) ask)

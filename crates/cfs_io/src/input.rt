@@ -1,0 +1,47 @@
+//! Reading a source to its end.
+ghost use Rattle.std.specs.Prelude.{◌≤◌, ◌<◌, ◌^◌, IfOk, IsErrOf};
+ghost use Rattle.cfs_io.specs.Causes.{Rose};
+ghost use Rattle.cfs_io.specs.Input.{ReadsWithin};
+
+use crate::traits::{Failed, Source};
+use std::alloc::Global;
+
+const PIECE: usize = 4096;
+
+/// Why the input was not read.
+#[derive(Clone, Copy, Debug, PartialEq, Eq)]
+pub enum ReadError {
+    /// A read failed.
+    Failed,
+    /// No memory was left for the bytes.
+    NoMemory,
+}
+
+/// Reads to the end of input, or to the first byte past `most`. `Failed` comes where a read failed, and `NoMemory`
+/// where no memory was left; the source has then lost what was read of it.
+pub fn read_within<S: Source>(
+    alloc: Global,
+    source: &mut S,
+    most: usize,
+) -> Result<Vec<u8>, ReadError>
+    requires { most < 2 ^ 63 }
+    ensures bytes { IfOk result (λ v. ReadsWithin most (S.left source.old) (S.left source.new) v.items) }
+    ensures later { S.faults source.old ≤ S.faults source.new }
+    ensures cause { IsErrOf result ReadError.Failed → Rose (S.faults source.old) (S.faults source.new) }
+{
+    let mut bytes = Vec::new(alloc);
+    let mut piece = [0; PIECE];
+    while bytes.len() <= most {
+        let room = PIECE.min(most - bytes.len() + 1);
+        match source.read(&mut piece[..room]) {
+            Ok(0) => break,
+            Ok(count) => {
+                if bytes.extend_from_slice(&piece[..count]).is_err() {
+                    return Err(ReadError::NoMemory);
+                }
+            }
+            Err(Failed) => return Err(ReadError::Failed),
+        }
+    }
+    Ok(bytes)
+}

@@ -1,0 +1,15 @@
+//! What a source in memory moves at one read.
+ghost use Rattle.std.specs.Prelude.{◌≡◌, ◌≤◌, ◌<◌, [], take, length};
+
+// Copies a first piece of `left` to the front of `buf`, and says how long it is.
+pub fn move_piece(left: &[u8], piece: usize, buf: &mut [u8]) -> usize
+    requires { 0 < piece }
+    ensures fits { result ≤ length left.now }
+    ensures bound { result ≤ length buf.new }
+    ensures front { take result buf.new ≡ take result left.now }
+    ensures end { result ≡ 0 → 0 < length buf.new → left.now ≡ [] }
+{
+    let count = piece.min(buf.len()).min(left.len());
+    buf[..count].copy_from_slice(&left[..count]);
+    count
+}

@@ -1,0 +1,44 @@
+//! What a source and a sink promise.
+ghost use Rattle.std.specs.Prelude.{◌≤◌, ◌<◌, ℕ, List, length, IfOk};
+ghost use Rattle.std.specs.declared.option.Option.{Option};
+ghost use Rattle.std.specs.Io.{ReadsAtMost};
+ghost use Rattle.std.specs.Io.KnownBytes.{ReadConsumes, WriteAppends};
+ghost use Rattle.cfs_io.specs.Causes.{HasCause, TakesSome};
+
+/// A read or a write failed. Nothing was moved.
+#[derive(Clone, Copy, Debug, PartialEq, Eq)]
+pub struct Failed;
+
+/// Where bytes come from, in their order.
+pub trait Source {
+    // The bytes that are left, where the source tells them.
+    ghost left: { Self → Option (List ℕ) };
+
+    // How often it has failed. At the greatest u64 the count can't rise.
+    ghost faults: { Self → ℕ };
+
+    /// Moves the first bytes that are left into `buf`, and says how many. `Ok(0)` is the end of input. `Failed` comes
+    /// where the device failed: nothing was moved, and the count of faults rose.
+    fn read(&mut self, buf: &mut [u8]) -> Result<usize, Failed>
+        requires { 0 < length buf.old }
+        ensures bound { ReadsAtMost result buf.new }
+        ensures bytes { ReadConsumes (left self.old) (left self.new) result buf.new }
+        ensures cause { HasCause (faults self.old) (faults self.new) result };
+}
+
+/// Where bytes go, in their order.
+pub trait Sink {
+    // The bytes that were taken, where the sink tells them.
+    ghost taken: { Self → Option (List ℕ) };
+
+    // How often it has failed. At the greatest u64 the count can't rise.
+    ghost faults: { Self → ℕ };
+
+    /// Takes a front of the bytes, at least one byte, and says how many. `Failed` comes where the device failed or has
+    /// no room: nothing was taken, and the count of faults rose.
+    fn write(&mut self, bytes: &[u8]) -> Result<usize, Failed>
+        requires { 0 < length bytes.now }
+        ensures some { TakesSome result bytes.now }
+        ensures bytes { WriteAppends (taken self.old) (taken self.new) result bytes.now }
+        ensures cause { HasCause (faults self.old) (faults self.new) result };
+}

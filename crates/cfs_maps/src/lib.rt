@@ -1,0 +1,8 @@
+//! Ordered maps from numbers and from names.
+#![tactic(auto)]
+
+mod names;
+mod numbers;
+
+pub use names::NameMap;
+pub use numbers::NumberMap;
