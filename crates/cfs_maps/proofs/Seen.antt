@@ -1,6 +1,8 @@
 -- What an ordered tree is seen as: the finite map of its entries.
 use Rattle.std.proofs.Common.{◌≡◌, List, [], ◌∷◌, map, length, Bool, true, false, cond, refl, sym, ◌∙◌, ap, subst}
-use Rattle.std.specs.Prelude.{T, ◌&&◌, Option, Some, None}
+use Rattle.std.specs.Prelude.{T, ◌&&◌, Option, Some, None, IsSome}
+use Rattle.std.specs.Option.{OnSome, option_copied_mut}
+use Rattle.std.specs.Borrow.{MutBor}
 use Rattle.std.specs.declared.cmp.Ordering.{Ordering}
 use Rattle.std.specs.declared.cmp.Ordering.TheVariants.{Less}
 use Rattle.std.specs.Ordering.{eq_by_cmp, is_lt}
@@ -9,7 +11,7 @@ use Rattle.std.specs.List.{AllByRecursion}
 use Rattle.std.specs.List.Sorted.{IsStrictlySortedBy}
 use Rattle.std.proofs.lemmas.Map.Keys.{sorted_head, sorted_tail}
 use Rattle.std.specs.Map.{lookup, keys_of}
-use Rattle.std.specs.BTreeMap.{BTreeMap, is_at, Updates, IsOrdered}
+use Rattle.std.specs.BTreeMap.{BTreeMap, is_at, Updates, WritesThrough, IsOrdered}
 use Rattle.std.specs.FinMap.{FinMap, IsAntisymmetric, get, insert, remove, len, entries, find, is_sorted, from_entries, from_sorted, entries-from_sorted, get-from_sorted, get-from_entries, get-insert, get-remove, len-entries, same_map}
 use Rattle.std.specs.FinMap.Entries.{below_all}
 
@@ -52,3 +54,17 @@ module _ {K X : Type 0} {R : K → K → Ordering} (o : IsTotalOrder R) (same : 
   remove-seen m n k updates = same_map o same _ _ (λ q.
       get-seen o n.entries q ∙ updates.0 q ∙ ap (λ b. cond b None (lookup (is_at (R q)) m.entries)) ((eq_by_cmp_equiv o).symm k q)
       ∙ ap (cond (eq_by_cmp R q k) None) (sym (get-seen o m.entries q)) ∙ sym (get-remove o (from_entries m.entries) k q))
+
+  -- to write through what was lent at a key that is there is to insert
+  pub written-seen : (m n : BTreeMap K X) (k : K) (w : X) → WritesThrough R (R k) m w n → IsSome (lookup (is_at (R k)) m.entries) → from_entries {R = R} n.entries ≡ insert (from_entries m.entries) k w
+  written-seen m n k w h there = insert-seen m n k w (h.3 there)
+
+-- what holds where a value was lent
+pub where_lent : {X : Type 0} (r : Option (MutBor X)) (found : Option X) (P : Type 0) → option_copied_mut r ≡ found → (IsSome found → P) → OnSome r P
+where_lent None found P value h = tt
+where_lent (Some x) found P value h = h (subst IsSome value refl)
+
+-- a value that is there was lent
+pub is_lent : {X : Type 0} (r : Option (MutBor X)) (x : X) → option_copied_mut r ≡ Some x → IsSome r
+is_lent None x e = subst IsSome (sym e) refl
+is_lent (Some y) x e = refl

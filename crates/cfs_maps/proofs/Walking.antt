@@ -6,7 +6,9 @@ use Rattle.std.specs.declared.cmp.Ordering.TheVariants.{Less}
 use Rattle.std.specs.declared.ops.Bound.{Bound}
 use Rattle.std.specs.declared.ops.Bound.TheVariants.{Included, Excluded, Unbounded}
 use Rattle.std.specs.Ordering.{is_lt, is_le}
-use Rattle.std.specs.Cmp.{IsTotalOrder}
+use Rattle.std.specs.Cmp.{IsTotalOrder, tied_itself}
+use Rattle.std.specs.FinMap.{is_sorted}
+use Rattle.std.specs.FinMap.Entries.{below_all}
 use Rattle.std.specs.BTreeMap.Range.{entries_between, is_from_start}
 use Rattle.std.specs.Option.{option_map}
 use Rattle.std.specs.Map.Iter.{TakesFirst}
@@ -31,3 +33,9 @@ between-after R (Some at) (e ∷ es) = by_test (is_lt (R at e.0)) (between-after
 pub first-shown : {A X : Type 0} (shows : A → X) (left : List X) (r : Option A) (rest : List X) → TakesFirst shows left r rest → option_map shows r ≡ first_of left
 first-shown shows left None rest steps = ap first_of (sym steps.0)
 first-shown shows left (Some x) rest steps = ap first_of (sym steps)
+
+-- before the first entry all are left
+pub after-none : {K X : Type 0} (R : K → K → Ordering) (es : List (K × X)) → entries_after R None es ≡ es
+after-none R [] = refl
+after-none R (e ∷ es) = ap (λ rest. e ∷ rest) (after-none R es)
+

@@ -1,1 +1,4 @@
+pub mod Lent
+pub mod LentNames
+pub mod Nested
 pub mod Walks

@@ -2,6 +2,7 @@
 #![tactic(auto)]
 
 mod names;
+mod nested;
 mod numbers;
 
 pub use names::NameMap;

@@ -1,10 +1,12 @@
 //! An ordered map from names.
 ghost use Rattle.std.specs.Prelude.{◌≡◌, List, ℕ, OnOk, OnErr, IfOk, IfErr, IsSome, IsOk, None, ◌^◌, ◌<◌};
-ghost use Rattle.std.specs.Option.{option_copied, option_map};
+ghost use Rattle.std.specs.Option.{option_copied, option_copied_mut, option_map};
+ghost use Rattle.std.specs.Borrow.{sem};
 ghost use Rattle.std.specs.Ordering.{nat_cmp};
 ghost use Rattle.std.specs.Cmp.Lexicographic.{slice_cmp};
 ghost use Rattle.std.specs.FinMap as map;
 ghost use Rattle.std.specs.Map.Iter.{ShowsInOrder, deref_pair};
+ghost use Rattle.cfs_maps.specs.LentNames.{lends_value};
 ghost use Rattle.cfs_maps.specs.Walks.{entries_after, first_of};
 
 use cfs_ids::Name;
@@ -55,6 +57,14 @@ impl<V> NameMap<V> {
         ensures { option_copied result ≡ map.get self.now name.now }
     {
         self.tree.get(name)
+    }
+
+    /// The value of the name, to change in place. None comes exactly where the name isn't there.
+    pub fn get_mut(&mut self, name: &Name) -> Option<&mut V>
+        ensures* writes_back { sem 𝓛 (lends_value V.row self.entry name.now result) }
+        ensures value { option_copied_mut result ≡ map.get self.old name.now }
+    {
+        self.tree.get_mut(name)
     }
 
     /// The first entry whose name is above `after`, or the first of all. None comes exactly where there is none.

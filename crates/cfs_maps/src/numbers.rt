@@ -1,9 +1,11 @@
 //! An ordered map from numbers.
 ghost use Rattle.std.specs.Prelude.{◌≡◌, ℕ, OnOk, OnErr, IfOk, IfErr, IsSome, IsOk, None, ◌^◌, ◌<◌};
-ghost use Rattle.std.specs.Option.{option_copied, option_map};
+ghost use Rattle.std.specs.Option.{option_copied, option_copied_mut, option_map};
+ghost use Rattle.std.specs.Borrow.{sem};
 ghost use Rattle.std.specs.Ordering.{nat_cmp};
 ghost use Rattle.std.specs.FinMap as map;
 ghost use Rattle.std.specs.Map.Iter.{ShowsInOrder, deref_pair};
+ghost use Rattle.cfs_maps.specs.Lent.{lends_value};
 ghost use Rattle.cfs_maps.specs.Walks.{entries_after, first_of};
 
 use std::alloc::Global;
@@ -52,6 +54,14 @@ impl<V> NumberMap<V> {
         ensures { option_copied result ≡ map.get self.now key }
     {
         self.tree.get(&key)
+    }
+
+    /// The value of the key, to change in place. None comes exactly where the key isn't there.
+    pub fn get_mut(&mut self, key: u64) -> Option<&mut V>
+        ensures* writes_back { sem 𝓛 (lends_value V.row self.entry key result) }
+        ensures value { option_copied_mut result ≡ map.get self.old key }
+    {
+        self.tree.get_mut(&key)
     }
 
     /// The first entry whose key is above `after`, or the first of all. None comes exactly where there is none.

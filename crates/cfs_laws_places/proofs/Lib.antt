@@ -1,0 +1,6 @@
+pub mod Changes
+pub mod Invariant
+pub mod Laws
+pub mod Told
+pub mod Trees
+pub mod Turns
