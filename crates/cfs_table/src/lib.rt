@@ -1,0 +1,8 @@
+//! The rows and the records of a shard.
+#![tactic(auto)]
+
+mod listing;
+mod table;
+
+pub use cfs_steps::{DirAttr, DirRec, Row};
+pub use table::Table;
