@@ -1,0 +1,15 @@
+use Rattle.std.proofs.Common.{◌≡◌, ◌+◌, ◌≤◌, length, sym, subst, ap, arith, length-append}
+use Rattle.cfs_ids.specs.declared.ids.Stamp.{Stamp}
+use Rattle.cfs_rules.specs.Places.{Shard, serve_shard}
+use Rattle.cfs_table.specs.Tables.{contents_of}
+use Rattle.cfs_shard.specs.Bounds.{CountsWithin}
+use Rattle.cfs_shard.proofs.Within.{raised, serve-within}
+use Rattle.cfs_shard.proofs.shard.Shard.serve.Goals as goal
+
+pub invariant_of-self-in-Ok-clause-counts : goal.invariant_of-self-in-Ok-clause-counts
+invariant_of-self-in-Ok-clause-counts c =
+    let longer : length c.args.self.now.log + 1 ≤ length c.push.new.self = omega (arith, simp length-append at (ap length c.in_ok-push.ensures.ok)) in
+    let at : Stamp = record { number = c.number_of.result + 1; place = record { 0 = c.args.self.now.index } } in
+    let before : Shard = contents_of c.args.self.now.table in
+    subst (λ (s : Shard). CountsWithin (length c.push.new.self) s) (sym c.in-Ok.ensures.ok)
+    (raised (length c.args.self.now.log + 1) (length c.push.new.self) (serve_shard before at c.args.ask.now).contents longer (serve-within (length c.args.self.now.log) before at c.args.ask.now c.args.self.now.counts))

@@ -1,0 +1,9 @@
+//! A shard: rows, records of directories, and a log.
+#![tactic(auto)]
+
+mod answers;
+mod changes;
+mod shard;
+
+pub use cfs_table::{DirAttr, DirRec, Row};
+pub use shard::Shard;

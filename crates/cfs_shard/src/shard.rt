@@ -1,0 +1,156 @@
+//! How a shard serves an ask.
+ghost use Rattle.std.specs.Prelude.{◌≡◌, ◌↔◌, ◌<◌, ◌+◌, ◌++◌, ◌∷◌, [], max, true, Some, IfOk, OnOk, OnErr, Err, length, slice_get};
+ghost use Rattle.std.specs.Option.{option_copied, option_map};
+ghost use Rattle.std.specs.Ordering.{nat_cmp};
+ghost use Rattle.std.specs.FinMap as map;
+ghost use Rattle.cfs_ids.specs.declared.ids.DirId.{DirId};
+ghost use Rattle.cfs_ids.specs.Maps.{row_key};
+ghost use Rattle.cfs_maps.specs.Walks.{entries_after, first_of};
+ghost use Rattle.cfs_table.specs.Tables.{contents_of as table_of};
+ghost use Rattle.cfs_rules.specs.Places.{serve_shard, opening_shard, entry_by, number_after, is_full, names_of};
+ghost use Rattle.cfs_rules.specs.Trees.{is_named};
+ghost use Rattle.std.proofs.Props.{props};
+ghost use Rattle.cfs_shard.specs.Bounds.{CountsWithin};
+
+use crate::answers::answer;
+use crate::changes::change;
+use cfs_ids::{Actor, DirId, FileId, Name, NoMemory, PlaceNo, RowList, Stamp, Ts, later, number_of};
+use cfs_steps::{Ask, Entry, LOG_LIMIT, Log, NUMBER_LIMIT, ServeFault};
+use cfs_table::{DirAttr, DirRec, Row, Table};
+use std::alloc::Global;
+
+/// A shard of the service. Its place number is its index.
+#[derive(Drop)]
+pub struct Shard {
+    index: u32,
+    table: Table,
+    log: Log,
+    last: u64,
+    ghost small: { index < 64 },
+    ghost counts: { CountsWithin (length log) (table_of table) } by { Prim.hlevel props },
+}
+
+// The table with which the shard with this index opens: shard 0 has the root's record.
+fn opening_table(alloc: Global) -> Result<Table, NoMemory>
+    ensures { IfOk result (λ table. table_of table ≡ opening_shard) }
+{
+    let mut table = Table::new(alloc);
+    let attr = DirAttr {
+        children: 0,
+        subdirs: 0,
+        time: 0,
+    };
+    match table.set_rec(DirId(0), DirRec { attr }) {
+        Ok(_) => Ok(table),
+        Err(_) => Err(NoMemory),
+    }
+}
+
+impl Shard {
+    ghost use Rattle.cfs_shard.specs.Shards.{contents_of, log_of, last_of, index_of, shown};
+
+    /// Shard 0, which has the root's record.
+    pub fn new(alloc: Global, index: u32) -> Result<Shard, NoMemory>
+        requires { index ≡ 0 }
+        ensures contents { IfOk result (λ shard. contents_of shard ≡ opening_shard) }
+        ensures log { IfOk result (λ shard. log_of shard ≡ []) }
+        ensures last { IfOk result (λ shard. last_of shard ≡ 0) }
+        ensures index { IfOk result (λ shard. index_of shard ≡ index) }
+    {
+        let table = opening_table(alloc)?;
+        Ok(Shard {
+            index,
+            table,
+            log: Log::new(alloc),
+            last: 0,
+        })
+    }
+
+    /// How many entries the log has.
+    pub fn count(&self) -> usize
+        ensures { result ≡ length (log_of self.now) }
+    {
+        self.log.len()
+    }
+
+    /// The last number, 0 before the first step.
+    pub fn last(&self) -> u64
+        ensures { result ≡ last_of self.now }
+    {
+        self.last
+    }
+
+    /// The i-th entry of the log, from 0. None comes exactly at and past the count.
+    pub fn entry(&self, i: usize) -> Option<&Entry>
+        ensures { option_copied result ≡ slice_get (log_of self.now) i }
+    {
+        self.log.get(i)
+    }
+
+    /// The nodes of the directory, by rising name.
+    pub fn rows_of(&self, dir: DirId) -> Result<RowList, NoMemory>
+        ensures { IfOk result (λ list. list ≡ map.entries (names_of (contents_of self.now) dir.0)) }
+    {
+        self.table.rows_of(dir)
+    }
+
+    /// The first record above `after`, or the first of all. None comes exactly where there is none.
+    pub fn next_rec(&self, after: Option<DirId>) -> Option<(DirId, &DirRec)>
+        ensures { option_map (λ entry. (entry.0.0, entry.1.now)) result ≡ first_of (entries_after nat_cmp (option_map (λ (dir : DirId). dir.0) after) (map.entries (contents_of self.now).recs)) }
+    {
+        self.table.next_rec(after)
+    }
+
+    /// Whether some row names the file.
+    pub fn names_file(&self, file: FileId) -> bool
+        ensures { result ≡ is_named (contents_of self.now) file.0 }
+    {
+        self.table.names_file(file)
+    }
+
+    // Whether the shard serves nothing more.
+    fn is_full(&self, last: Ts) -> bool
+        ensures { result ≡ is_full (length (log_of self.now)) last (last_of self.now) }
+    {
+        self.log.len() >= LOG_LIMIT || number_of(later(last, self.last)) >= NUMBER_LIMIT
+    }
+
+    /// Serves an ask of the actor, whose last number is `last`, by the shard's table, and logs the step. LogFull comes
+    /// exactly where the log has 1,048,576 entries, or a last number is 2^40 or more. On Err the shard is as before.
+    pub fn serve(&mut self, actor: Actor, last: Ts, ask: &Ask) -> Result<Entry, ServeFault>
+        ensures entry { let number = number_after last (last_of self.old) in IfOk result (λ entry. entry ≡ entry_by actor number ask.now (serve_shard (contents_of self.old) (record { number = number; place = record { 0 = index_of self.old } }) ask.now)) }
+        ensures contents { let number = number_after last (last_of self.old) in OnOk result (contents_of self.new ≡ (serve_shard (contents_of self.old) (record { number = number; place = record { 0 = index_of self.old } }) ask.now).contents) }
+        ensures log { IfOk result (λ entry. log_of self.new ≡ log_of self.old ++ entry ∷ []) }
+        ensures last { OnOk result (last_of self.new ≡ number_after last (last_of self.old)) }
+        ensures full { (result ≡ Err ServeFault.LogFull) ↔ (is_full (length (log_of self.old)) last (last_of self.old) ≡ true) }
+        ensures err { OnErr result (shown self.new ≡ shown self.old) }
+        ensures index { index_of self.new ≡ index_of self.old }
+    {
+        if self.is_full(last) {
+            return Err(ServeFault::LogFull);
+        }
+        let at = Stamp {
+            number: number_of(later(last, self.last)) + 1,
+            place: PlaceNo(self.index),
+        };
+        let told = answer(&self.table, at, ask)?;
+        let entry = Entry {
+            actor,
+            number: at.number,
+            ask: ask.copy()?,
+            answer: told.answer,
+            moved: told.moved,
+        };
+        self.log.push(entry.copy()?)?;
+        match change(&mut self.table, at, ask) {
+            Ok(()) => {
+                self.last = at.number;
+                Ok(entry)
+            }
+            Err(NoMemory) => {
+                self.log.cut_last();
+                Err(ServeFault::NoMemory)
+            }
+        }
+    }
+}
