@@ -1,5 +1,5 @@
 -- What an ordered tree is seen as: the finite map of its entries.
-use Rattle.std.proofs.Common.{◌≡◌, List, [], ◌∷◌, map, length, Bool, true, false, cond, refl, sym, ◌∙◌, ap, subst}
+use Rattle.std.proofs.Common.{◌≡◌, List, [], ◌∷◌, length, Bool, true, false, cond, refl, sym, ◌∙◌, ap, subst}
 use Rattle.std.specs.Prelude.{T, ◌&&◌, Option, Some, None, IsSome}
 use Rattle.std.specs.Option.{OnSome, option_copied_mut}
 use Rattle.std.specs.Borrow.{MutBor}
@@ -12,7 +12,7 @@ use Rattle.std.specs.List.Sorted.{IsStrictlySortedBy}
 use Rattle.std.proofs.lemmas.Map.Keys.{sorted_head, sorted_tail}
 use Rattle.std.specs.Map.{lookup, keys_of}
 use Rattle.std.specs.BTreeMap.{BTreeMap, is_at, Updates, WritesThrough, IsOrdered}
-use Rattle.std.specs.FinMap.{FinMap, IsAntisymmetric, get, insert, remove, len, entries, find, is_sorted, from_entries, from_sorted, entries-from_sorted, get-from_sorted, get-from_entries, get-insert, get-remove, len-entries, same_map}
+use Rattle.std.specs.FinMap.{IsAntisymmetric, get, insert, remove, len, entries, find, is_sorted, from_entries, from_sorted, entries-from_sorted, get-from_sorted, get-from_entries, get-insert, get-remove, len-entries, same_map}
 use Rattle.std.specs.FinMap.Entries.{below_all}
 
 both : (a b : Bool) → T a → T b → T (a && b)

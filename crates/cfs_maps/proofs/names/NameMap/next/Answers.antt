@@ -1,11 +1,11 @@
 use Rattle.std.proofs.Common.{◌≡◌, sym, ◌∙◌, ap}
-use Rattle.std.specs.Option.{option_map, option_copied}
+use Rattle.std.specs.Option.{option_copied}
 use Rattle.std.specs.Ordering.{nat_cmp}
 use Rattle.std.specs.Range.Bound.{bound_map}
 use Rattle.std.specs.Cmp.Lexicographic.{slice_cmp, nat_list_cmp_total}
-use Rattle.std.specs.FinMap.{entries, nat_cmp-IsAntisymmetric, slice_cmp-IsAntisymmetric}
+use Rattle.std.specs.FinMap.{nat_cmp-IsAntisymmetric, slice_cmp-IsAntisymmetric}
 use Rattle.std.specs.Map.Iter.{deref_pair}
-use Rattle.cfs_maps.specs.Walks.{entries_after, first_of}
+use Rattle.cfs_maps.specs.Walks.{first_of}
 use Rattle.cfs_maps.proofs.Seen.{entries-seen}
 use Rattle.cfs_maps.proofs.Walking.{start_of, between-after, first-shown}
 use Rattle.cfs_maps.proofs.names.NameMap.next.Goals as goal

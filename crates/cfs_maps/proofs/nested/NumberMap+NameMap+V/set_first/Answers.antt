@@ -1,8 +1,7 @@
-use Rattle.std.proofs.Common.{◌≡◌, sym, ◌∙◌, ap, Some, None}
-use Rattle.std.specs.FinMap.{get, insert, empty, get-empty}
+use Rattle.std.proofs.Common.{◌∙◌, ap}
+use Rattle.std.specs.FinMap.{get, get-empty}
 use Rattle.std.specs.Ordering.{nat_cmp}
 use Rattle.std.specs.Cmp.Lexicographic.{slice_cmp}
-use Rattle.std.specs.Option.{option_copied_mut}
 use Rattle.cfs_maps.proofs.Seen.{is_lent}
 use Rattle.cfs_maps.proofs.Inner.{get-insert_here, here-empty, with_name-first, unchanged-first}
 use Rattle.cfs_maps.proofs.nested.NumberMap+NameMap+V.set_first.Goals as goal

@@ -1,5 +1,4 @@
-use Rattle.std.proofs.Common.{◌≡◌, sym, ◌∙◌, Some, None, arith}
-use Rattle.std.specs.FinMap.{get}
+use Rattle.std.proofs.Common.{sym, arith}
 use Rattle.cfs_maps.proofs.Inner.{with_name-there, unchanged-there, no_name}
 use Rattle.cfs_maps.proofs.nested.NumberMap+NameMap+V.set_name.Goals as goal
 

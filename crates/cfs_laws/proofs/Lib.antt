@@ -1,0 +1,16 @@
+pub mod Lists
+pub mod Stamps
+pub mod Keys
+pub mod Pasts
+pub mod OwnSteps
+pub mod Creates
+pub mod Replied
+pub mod Steps
+pub mod Turns
+pub mod AllLines
+pub mod Ordered
+pub mod Orders
+pub mod Replies
+pub mod Moves
+pub mod Callers
+pub mod Histories

@@ -1,0 +1,17 @@
+-- The clients whose calls a history has.
+use Rattle.std.specs.Prelude.{◌≡◌, ◌≢◌, ℕ, ◌<◌, List, [], ◌∷◌, true, ◌==◌}
+use Rattle.std.specs.List.{list_any}
+use Rattle.cfs_ids.specs.declared.call.Call.{Call}
+
+abbrev pub IsBelowAll : ℕ → List ℕ → Type 0
+IsBelowAll m [] = Unit {0}
+IsBelowAll m (n ∷ ns) = (m < n) × IsBelowAll m ns
+
+-- each is below all later ones
+abbrev pub IsRising : List ℕ → Type 0
+IsRising [] = Unit {0}
+IsRising (m ∷ ms) = IsBelowAll m ms × IsRising ms
+
+-- every client that has calls is a member
+abbrev pub HasCallers : (ℕ → List Call) → List ℕ → Type 0
+HasCallers calls members = (c : ℕ) → calls c ≢ [] → list_any (λ m. m == c) members ≡ true

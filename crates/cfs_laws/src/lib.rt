@@ -1,0 +1,24 @@
+//! The law of the history: every run, written as one history, is legal, and ends in the tree that the places hold.
+#![tactic(auto)]
+
+ghost use Rattle.std.specs.Prelude.{◌≡◌, ℕ, List};
+ghost use Rattle.cfs_ids.specs.declared.call.Call.{Call};
+ghost use Rattle.cfs_laws.specs.Members.{HasCallers, IsRising};
+ghost use Rattle.cfs_rules.specs.Facts.{MovesMatch};
+ghost use Rattle.cfs_rules.specs.Histories.{world_history};
+ghost use Rattle.cfs_rules.specs.Legal.{IsLegal, final};
+ghost use Rattle.cfs_rules.specs.Trees.{tree};
+ghost use Rattle.cfs_rules.specs.Worlds.{opening, run_of};
+
+/// Whatever the clients call and whoever steps next, the history of the run is legal: each line has its point between
+/// the call's first and last own steps, the lines stand in order, one client's calls follow one another, no two moves
+/// stand at one position, and each reply is the sequential namespace's so far. The namespace that it ends in is the
+/// tree of the places, and each move of the run stands in exactly one line.
+pub fn one_legal_history()
+    ensures legal { (calls : ℕ → List Call) (turns members : List ℕ) → IsRising members → HasCallers calls members
+        → IsLegal (world_history members (run_of turns (opening calls))) }
+    ensures last { (calls : ℕ → List Call) (turns members : List ℕ) → IsRising members → HasCallers calls members
+        → final (world_history members (run_of turns (opening calls))) ≡ tree (run_of turns (opening calls)).shard (run_of turns (opening calls)).store }
+    ensures moves { (calls : ℕ → List Call) (turns members : List ℕ) → IsRising members → HasCallers calls members
+        → MovesMatch (run_of turns (opening calls)).run (world_history members (run_of turns (opening calls))) }
+{}

@@ -1,0 +1,6 @@
+pub mod Calls
+pub mod Fields
+pub mod Lists
+pub mod Outcomes
+pub mod Pieces
+pub mod Scripts

@@ -1,0 +1,18 @@
+//! The script of a run, read from the lines of its input.
+#![tactic(auto)]
+
+mod command;
+mod cut;
+mod fields;
+mod lines;
+mod lists;
+mod read;
+mod reading;
+mod script;
+mod turns;
+
+pub use command::{Command, CommandList};
+pub use lists::CommandLists;
+pub use read::read_script;
+pub use script::{Fault, Script, ScriptRefusal};
+pub use turns::TurnList;

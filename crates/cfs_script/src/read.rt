@@ -1,0 +1,38 @@
+//! Reading a script from a source.
+ghost use Rattle.std.specs.Prelude.{◌≡◌, ◌≤◌, ℕ, List, Some, IfOk, IfErr};
+ghost use Rattle.cfs_io.specs.Causes.{Rose};
+ghost use Rattle.cfs_script.specs.Scripts.{script_of};
+ghost use Rattle.cfs_script.specs.Outcomes.{Gives, Answers, Reads, IsInForm};
+
+use crate::lines::read_text;
+use crate::script::{Script, ScriptRefusal};
+use cfs_io::{ReadError, Source, read_within};
+use std::alloc::Global;
+
+const MOST_BYTES: usize = 4_194_304;
+
+// The script of bytes that were read to their end, or past the limit.
+fn script_in(alloc: Global, bytes: &[u8]) -> Result<Script, ScriptRefusal>
+    ensures { Gives result (script_of bytes.now) }
+{
+    let within = bytes.len() <= MOST_BYTES;
+    let text = &bytes[..bytes.len().min(MOST_BYTES)];
+    read_text(alloc, text, within)
+}
+
+#[tactic(auto, using(crate::proofs::Told::telling), unfolding(crate::specs::Scripts::most_bytes))]
+/// The script that a source holds. `ReadFault` comes only where the source failed; `Bad` has the first line that
+/// breaks the form; `NoMemory` is want of memory.
+pub fn read_script<S: Source>(alloc: Global, source: &mut S) -> Result<Script, ScriptRefusal>
+    ensures read { Reads (S.left source.old) (S.left source.new) result }
+    ensures in_form { IfOk result IsInForm }
+    ensures told { (left : List ℕ) → S.left source.old ≡ Some left → Answers result (script_of left) }
+    ensures read_fault { IfErr result (λ refusal. refusal ≡ ScriptRefusal.ReadFault → Rose (S.faults source.old) (S.faults source.new)) }
+    ensures later { S.faults source.old ≤ S.faults source.new }
+{
+    match read_within(alloc, source, MOST_BYTES) {
+        Ok(bytes) => script_in(alloc, bytes.as_slice()),
+        Err(ReadError::Failed) => Err(ScriptRefusal::ReadFault),
+        Err(ReadError::NoMemory) => Err(ScriptRefusal::NoMemory),
+    }
+}
