@@ -3,6 +3,7 @@ use Rattle.std.specs.Prelude.{◌≡◌, ◌≢◌, ℕ, ◌<◌, List, [], ◌�
 use Rattle.std.specs.List.{list_any}
 use Rattle.cfs_ids.specs.declared.call.Call.{Call}
 
+-- a number below all of a list
 abbrev pub IsBelowAll : ℕ → List ℕ → Type 0
 IsBelowAll m [] = Unit {0}
 IsBelowAll m (n ∷ ns) = (m < n) × IsBelowAll m ns

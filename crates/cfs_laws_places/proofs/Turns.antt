@@ -27,8 +27,8 @@ use Rattle.cfs_steps.specs.declared.moves.Moved.{Moved}
 use Rattle.cfs_steps.specs.declared.call_done.CallDone.{CallDone}
 use Rattle.cfs_steps.specs.Asks.{place_of}
 use Rattle.cfs_steps.specs.Phases.{Phase, Asking, Inserting, Settling, TakingBack, Finished, store_place}
-use Rattle.cfs_rules.specs.Places.{Shard, Store, Served, with_row, inserted, settled, taken_back, put_file, file_of, read_row, list_rows, unmoved}
-use Rattle.cfs_rules.specs.Worlds.{World, Progress, client_of, hears, entry_of, after_shard, after_store, number_after, step_shard, step_store, step_in, step, turn_of, turn, run_of}
+use Rattle.cfs_rules.specs.Places.{Shard, Store, Served, number_after, with_row, inserted, settled, taken_back, put_file, file_of, read_row, list_rows, unmoved}
+use Rattle.cfs_rules.specs.Worlds.{World, Progress, client_of, hears, entry_of, after_shard, after_store, step_shard, step_store, step_in, step, turn_of, turn, run_of}
 use Rattle.cfs_rules.specs.Trees.{tree}
 use Rattle.cfs_rules.specs.Facts.{IsAllowed, after_moved, space}
 use Rattle.cfs_laws_places.specs.Turns.{GrowsByOne}
