@@ -1,7 +1,7 @@
 //! The machine of a reading call.
 ghost use Rattle.std.specs.Prelude.{◌≡◌, ℕ, IsTrue, IfOk, IfSome, OnOk, OnErr, IsNone, Some, None};
 ghost use Rattle.cfs_steps.specs.Asks.{place_of};
-ghost use Rattle.cfs_steps.specs.Phases.{Asking, first_ask, replied, heard_first, AnswersFirst, Answers, heard, done_of};
+ghost use Rattle.cfs_steps.specs.Phases.{Asking, first_ask, replied, heard_first, answers_first, answers, is_going, heard, done_of};
 ghost use Rattle.cfs_reader.specs.Readers.{phase_of, is_reading, reads};
 
 use crate::state::ReaderState;
@@ -17,11 +17,13 @@ pub struct Reader {
 }
 
 impl Reader {
+    ghost use Rattle.cfs_reader.specs.ReaderViews.{client_in, phase_in};
+
     /// The call of this client, which is a look-up or a list and has made no step.
     pub fn start(client: Client, call: Call) -> Reader
         requires { IsTrue (is_reading call) }
-        ensures phase { ⟦<Reader as Machine>⟧.phase result ≡ Asking call }
-        ensures client { ⟦<Reader as Machine>⟧.client result ≡ client }
+        ensures phase { phase_in result ≡ Asking call }
+        ensures client { client_in result ≡ client }
     {
         Reader {
             client,
@@ -59,7 +61,7 @@ fn place_of_call(call: &Call) -> PlaceNo
 // The reply that the answer gives.
 fn reply_to(call: &Call, answer: &Answer) -> Result<Reply, NoMemory>
     requires reading { IsTrue (is_reading call.now) }
-    requires listed { AnswersFirst call.now answer.now }
+    requires listed { IsTrue (answers_first call.now answer.now) }
     ensures { IfOk result (λ reply. (s : _) → heard_first call.now s answer.now ≡ replied call.now s s s reply) }
 {
     match (call, answer) {

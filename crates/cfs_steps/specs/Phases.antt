@@ -1,5 +1,5 @@
 -- The calls, step by step: what each asks next, and what it makes of the answer.
-use Rattle.std.specs.Prelude.{ℕ, ◌+◌, List as Bytes, Option, Some, None}
+use Rattle.std.specs.Prelude.{ℕ, ◌+◌, List as Bytes, Bool, true, false, Option, Some, None}
 use Rattle.cfs_ids.specs.declared.ids.DirId.{DirId}
 use Rattle.cfs_ids.specs.declared.ids.FileId.{FileId}
 use Rattle.cfs_ids.specs.declared.ids.Client.{Client}
@@ -92,29 +92,34 @@ abbrev pub done_of : Phase → Option CallDone
 done_of (Finished done) = Some done
 done_of _ = None
 
--- ---- the answers that the tables list for what is asked
-abbrev pub AnswersFirst : Call → Answer → Type 0
-AnswersFirst (Lookup dir name) (Found node stamp) = Unit {0}
-AnswersFirst (Lookup dir name) Absent = Unit {0}
-AnswersFirst (ListCall dir) (Rows rows) = Unit {0}
-AnswersFirst (ListCall dir) NoDir = Unit {0}
-AnswersFirst (Create dir name) (New (File file)) = Unit {0}
-AnswersFirst call answer = ⊥
+-- ---- whether a table lists the answer for what is asked
+abbrev pub answers_first : Call → Answer → Bool
+answers_first (Lookup dir name) (Found node stamp) = true
+answers_first (Lookup dir name) Absent = true
+answers_first (ListCall dir) (Rows rows) = true
+answers_first (ListCall dir) NoDir = true
+answers_first (Create dir name) (New (File file)) = true
+answers_first call answer = false
 
-abbrev pub AnswersInsert : Answer → Type 0
-AnswersInsert (Done replaced) = Unit {0}
-AnswersInsert Exists = Unit {0}
-AnswersInsert NoDir = Unit {0}
-AnswersInsert answer = ⊥
+abbrev pub answers_insert : Answer → Bool
+answers_insert (Done replaced) = true
+answers_insert Exists = true
+answers_insert NoDir = true
+answers_insert answer = false
 
-abbrev pub AnswersChange : Answer → Type 0
-AnswersChange (Done replaced) = Unit {0}
-AnswersChange NoneAnswer = Unit {0}
-AnswersChange answer = ⊥
+abbrev pub answers_change : Answer → Bool
+answers_change (Done replaced) = true
+answers_change NoneAnswer = true
+answers_change answer = false
 
-abbrev pub Answers : Phase → Answer → Type 0
-Answers (Asking call) answer = AnswersFirst call answer
-Answers (Inserting dir name file ts first) answer = AnswersInsert answer
-Answers (Settling dir name file ts first at) answer = AnswersChange answer
-Answers (TakingBack dir name file errno first at) answer = AnswersChange answer
-Answers (Finished done) answer = ⊥
+abbrev pub answers : Phase → Answer → Bool
+answers (Asking call) answer = answers_first call answer
+answers (Inserting dir name file ts first) answer = answers_insert answer
+answers (Settling dir name file ts first at) answer = answers_change answer
+answers (TakingBack dir name file errno first at) answer = answers_change answer
+answers (Finished done) answer = false
+
+-- whether the call has still steps to make
+abbrev pub is_going : Phase → Bool
+is_going (Finished done) = false
+is_going phase = true

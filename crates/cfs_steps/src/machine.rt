@@ -1,9 +1,9 @@
 //! The machines that make a call step by step.
-ghost use Rattle.std.specs.Prelude.{◌≡◌, ℕ, IfOk, OnOk, OnErr, IsNone, Some};
+ghost use Rattle.std.specs.Prelude.{◌≡◌, ℕ, IsTrue, IfOk, OnOk, OnErr};
 ghost use Rattle.std.specs.Option.{option_copied};
 ghost use Rattle.cfs_ids.specs.declared.ids.Client.{Client};
 ghost use Rattle.cfs_steps.specs.Asks.{place_of};
-ghost use Rattle.cfs_steps.specs.Phases.{Phase, ask_of, heard, done_of, Answers};
+ghost use Rattle.cfs_steps.specs.Phases.{Phase, ask_of, heard, done_of, is_going, answers};
 
 use crate::ask::Ask;
 use crate::call_done::CallDone;
@@ -23,18 +23,18 @@ pub trait Machine {
 
     /// The place of the next ask.
     fn next_place(&self) -> PlaceNo
-        requires { IsNone (done_of (phase self.now)) }
+        requires { IsTrue (is_going (phase self.now)) }
         ensures { result ≡ place_of (ask_of (client self.now) (put_index self.now) (phase self.now)) };
 
     /// The next ask. `last` is the client's last number.
     fn ask(&self, last: Ts) -> Result<Ask, NoMemory>
-        requires { IsNone (done_of (phase self.now)) }
+        requires { IsTrue (is_going (phase self.now)) }
         ensures { IfOk result (λ ask. ask ≡ ask_of (client self.now) (put_index self.now) (phase self.now)) };
 
     /// Takes the entry of the step that was asked. On Err the machine is as before.
     fn hear(&mut self, place: PlaceNo, entry: &Entry) -> Result<(), NoMemory>
-        requires going { IsNone (done_of (phase self.old)) }
-        requires answers { Answers (phase self.old) entry.now.answer }
+        requires going { IsTrue (is_going (phase self.old)) }
+        requires answers { IsTrue (answers (phase self.old) entry.now.answer) }
         ensures ok { OnOk result (phase self.new ≡ heard (phase self.old) place entry.now) }
         ensures err { OnErr result (phase self.new ≡ phase self.old) }
         ensures same_client { client self.new ≡ client self.old }

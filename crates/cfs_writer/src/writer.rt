@@ -1,7 +1,8 @@
 //! The machine of a writing call.
 ghost use Rattle.std.specs.Prelude.{◌≡◌, ◌<◌, ◌+◌, ℕ, IsTrue, IfOk, OnOk, OnErr, IsNone, Some, None};
 ghost use Rattle.cfs_steps.specs.Asks.{place_of, home_of};
-ghost use Rattle.cfs_steps.specs.Phases.{Asking, Finished, replied, moved as moved_phase, heard_insert, AnswersInsert, first_ask, ask_of, heard_as, Answers, heard, done_of};
+ghost use Rattle.cfs_steps.specs.Phases.{Asking, Finished, replied, moved as moved_phase, heard_insert, answers_insert, is_going, first_ask, ask_of, heard_as, answers, heard, done_of};
+ghost use Rattle.cfs_rules.specs.Worlds.{begun_of};
 ghost use Rattle.cfs_writer.specs.Writers.{phase_of, is_writing, writes};
 
 use crate::state::{Creation, WriterState};
@@ -19,13 +20,15 @@ pub struct Writer {
 }
 
 impl Writer {
+    ghost use Rattle.cfs_writer.specs.WriterViews.{client_in, index_in, phase_in};
+
     /// The call of this client, which is a create and has made no step.
     pub fn start(client: Client, call: Call, put_index: u32) -> Writer
         requires writing { IsTrue (is_writing call) }
         requires small { put_index < 64 }
-        ensures phase { ⟦<Writer as Machine>⟧.phase result ≡ Asking call }
-        ensures client { ⟦<Writer as Machine>⟧.client result ≡ client }
-        ensures put_index { ⟦<Writer as Machine>⟧.put_index result ≡ put_index }
+        ensures phase { phase_in result ≡ Asking call }
+        ensures client { client_in result ≡ client }
+        ensures put_index { index_in result ≡ put_index }
     {
         Writer {
             client,
@@ -33,11 +36,25 @@ impl Writer {
             state: WriterState::Asking(call),
         }
     }
+
+    /// The call, where it has made a step and isn't finished, with its first step.
+    pub fn begun(&self) -> Result<Option<(Call, Stamp)>, NoMemory>
+        ensures { IfOk result (λ begun. begun ≡ begun_of (Some (phase_in self.now))) }
+    {
+        match &self.state {
+            WriterState::Asking(_) | WriterState::Finished(_) => Ok(None),
+            WriterState::Inserting { creation, .. }
+            | WriterState::Settling { creation, .. }
+            | WriterState::TakingBack { creation, .. } => {
+                Ok(Some((creation.call()?, creation.first)))
+            }
+        }
+    }
 }
 
 // The ask of a state.
 fn ask_in(client: Client, put_index: u32, state: &WriterState) -> Result<Ask, NoMemory>
-    requires going { IsNone (done_of (phase_of state.now)) }
+    requires going { IsTrue (is_going (phase_of state.now)) }
     requires writing { IsTrue (writes state.now) }
     requires small { put_index < 64 }
     ensures { IfOk result (λ ask. ask ≡ ask_of client put_index (phase_of state.now)) }
@@ -75,7 +92,7 @@ fn store_of(file: FileId) -> PlaceNo
 
 // The place of the ask of a state.
 fn place_in(client: Client, put_index: u32, state: &WriterState) -> PlaceNo
-    requires going { IsNone (done_of (phase_of state.now)) }
+    requires going { IsTrue (is_going (phase_of state.now)) }
     requires writing { IsTrue (writes state.now) }
     requires small { put_index < 64 }
     ensures { result ≡ place_of (ask_of client put_index (phase_of state.now)) }
@@ -93,7 +110,7 @@ fn place_in(client: Client, put_index: u32, state: &WriterState) -> PlaceNo
 // The state after the put.
 fn after_put(call: &Call, step: Stamp, answer: &Answer) -> Result<WriterState, NoMemory>
     requires writing { IsTrue (is_writing call.now) }
-    requires listed { Answers (Asking call.now) answer.now }
+    requires listed { IsTrue (answers (Asking call.now) answer.now) }
     ensures state { IfOk result (λ state. phase_of state ≡ heard_as (Asking call.now) step answer.now) }
     ensures writing { IfOk result (λ state. IsTrue (writes state)) }
 {
@@ -115,6 +132,16 @@ fn after_put(call: &Call, step: Stamp, answer: &Answer) -> Result<WriterState, N
 }
 
 impl Creation {
+    // The create.
+    fn call(&self) -> Result<Call, NoMemory>
+        ensures { IfOk result (λ call. call ≡ Call.Create self.now.dir self.now.name) }
+    {
+        Ok(Call::Create {
+            dir: self.dir,
+            name: self.name.copy()?,
+        })
+    }
+
     // A copy.
     fn copy(&self) -> Result<Creation, NoMemory>
         ensures { IfOk result (λ copy. copy ≡ self.now) }
@@ -132,10 +159,7 @@ impl Creation {
         ensures { IfOk result (λ done. Finished done ≡ replied (Call.Create self.now.dir self.now.name) self.now.first at last (Reply.Refused errno)) }
     {
         Ok(CallDone {
-            call: Call::Create {
-                dir: self.dir,
-                name: self.name.copy()?,
-            },
+            call: self.call()?,
             first: self.first,
             at: At::Before(at),
             last,
@@ -150,10 +174,7 @@ impl Creation {
         ensures { IfOk result (λ done. Finished done ≡ moved_phase self.now.dir self.now.name self.now.file ts self.now.first at last) }
     {
         Ok(CallDone {
-            call: Call::Create {
-                dir: self.dir,
-                name: self.name.copy()?,
-            },
+            call: self.call()?,
             first: self.first,
             at: At::Step(at),
             last,
@@ -166,7 +187,7 @@ impl Creation {
 
 // The state after the insert.
 fn after_insert(creation: &Creation, ts: Ts, step: Stamp, answer: &Answer) -> Result<WriterState, NoMemory>
-    requires { AnswersInsert answer.now }
+    requires { IsTrue (answers_insert answer.now) }
     ensures state { IfOk result (λ state. phase_of state ≡ heard_insert creation.now.dir creation.now.name creation.now.file ts creation.now.first step answer.now) }
     ensures writing { IfOk result (λ state. IsTrue (writes state)) }
 {
@@ -194,7 +215,7 @@ fn after_insert(creation: &Creation, ts: Ts, step: Stamp, answer: &Answer) -> Re
 // The state after a step.
 fn state_after(state: &WriterState, step: Stamp, answer: &Answer) -> Result<WriterState, NoMemory>
     requires writing { IsTrue (writes state.now) }
-    requires listed { Answers (phase_of state.now) answer.now }
+    requires listed { IsTrue (answers (phase_of state.now) answer.now) }
     ensures state { IfOk result (λ after. phase_of after ≡ heard_as (phase_of state.now) step answer.now) }
     ensures writing { IfOk result (λ after. IsTrue (writes after)) }
 {

@@ -1,0 +1,3 @@
+pub mod CallMachines
+pub mod Clients
+pub mod States

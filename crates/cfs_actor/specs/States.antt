@@ -1,0 +1,42 @@
+-- The progress of a client whose last entry may not yet be worked in.
+use Rattle.std.specs.Prelude.{ℕ, List, Bool, true, false, not, ◌==◌, ◌&&◌, ◌||◌, Option, Some, None}
+use Rattle.std.specs.Option.{option_map}
+use Rattle.cfs_ids.specs.declared.ids.Client.{Client}
+use Rattle.cfs_ids.specs.declared.call.Call.{Call}
+use Rattle.cfs_steps.specs.declared.answer.Answer.{Answer}
+use Rattle.cfs_steps.specs.declared.call_done.CallDone.{CallDone}
+use Rattle.cfs_steps.specs.Phases.{Phase, answers, is_going}
+use Rattle.cfs_rules.specs.Worlds.{Progress, hears}
+use Rattle.cfs_actor.specs.declared.kept.KeptEntry.{KeptEntry}
+use Rattle.cfs_actor.specs.declared.call_machine.CallMachine.{CallMachine}
+use Rattle.cfs_actor.specs.CallMachines.{client_in, index_in, phase_in}
+
+-- the entry is heard
+abbrev pub with_kept : Option KeptEntry → Progress → Progress
+with_kept None p = p
+with_kept (Some kept) p = hears p kept.place kept.entry
+
+abbrev pub worked_in : Option CallMachine → List Call → Bool → ℕ → List CallDone → Progress
+worked_in current waiting ended last done = record { current = option_map phase_in current; waiting = waiting; ended = ended; last = last; done = done }
+
+-- the current call is the client's, and its next put is in store 0
+abbrev pub is_own : Client → Option CallMachine → Bool
+is_own client None = true
+is_own client (Some machine) = ((client_in machine).0 == client.0) && (index_in machine == 0)
+
+-- a call that has ended is current only while its last entry is kept, and a kept entry has an answer for the current call
+abbrev pub fits : Option KeptEntry → Option CallMachine → Bool
+fits None None = true
+fits None (Some machine) = is_going (phase_in machine)
+fits (Some kept) None = false
+fits (Some kept) (Some machine) = not (is_going (phase_in machine)) || answers (phase_in machine) kept.entry.answer
+
+-- the last number is that of the kept entry
+abbrev pub is_last : Option KeptEntry → ℕ → Bool
+is_last None last = true
+is_last (Some kept) last = last == kept.entry.number
+
+-- whether a table lists the answer for what a client with this current call asks
+abbrev pub answers_now : Option Phase → Answer → Bool
+answers_now None answer = true
+answers_now (Some phase) answer = answers phase answer

@@ -1,0 +1,173 @@
+//! The state of a client.
+ghost use Rattle.std.specs.Prelude.{◌≡◌, ◌++◌, ◌∷◌, [], IsTrue, IfOk, OnOk, OnErr, Some, None, false};
+ghost use Rattle.std.specs.Option.{option_map};
+ghost use Rattle.cfs_steps.specs.Phases.{heard};
+ghost use Rattle.cfs_rules.specs.Worlds.{first_of, rest_of, starts, next_ask, hears, calls_of};
+ghost use Rattle.cfs_actor.specs.CallMachines.{client_in, index_in, phase_in};
+ghost use Rattle.cfs_actor.specs.States.{with_kept, worked_in, is_own, fits, is_last, answers_now};
+
+use crate::call_machine::CallMachine;
+use crate::kept::KeptEntry;
+use crate::waiting::CallQueue;
+use cfs_ids::{Client, NoMemory, PlaceNo, Ts};
+use cfs_steps::{Ask, CallList, ClientCalls, Entry, Machine};
+use std::alloc::Global;
+
+/// A client: its current call, the calls that wait, and those that are done. After a step it keeps the entry until
+/// `settle` works it in; as contracts see it, the entry has been heard at once.
+#[derive(Debug, Drop)]
+pub struct ClientState {
+    client: Client,
+    current: Option<CallMachine>,
+    waiting: CallQueue,
+    ended: bool,
+    last: Ts,
+    done: CallList,
+    kept: Option<KeptEntry>,
+    ghost own: { IsTrue (is_own client current) },
+    ghost fitting: { IsTrue (fits kept current) },
+    ghost stamped: { IsTrue (is_last kept last) },
+}
+
+// The next call that waits, begun.
+fn next_call(client: Client, waiting: &mut CallQueue) -> Option<CallMachine>
+    ensures current { option_map phase_in result ≡ first_of waiting.old }
+    ensures waiting { waiting.new ≡ rest_of waiting.old }
+    ensures own { IsTrue (is_own client result) }
+    ensures fits { IsTrue (fits None result) }
+{
+    match waiting.take() {
+        Some(call) => Some(CallMachine::start(client, call)),
+        None => None,
+    }
+}
+
+// Hears the kept entry, unless the call has ended with it already.
+fn hear_kept(machine: &mut CallMachine, kept: &KeptEntry) -> Result<(), NoMemory>
+    requires { IsTrue (fits (Some kept.now) (Some machine.old)) }
+    ensures ok { OnOk result (phase_in machine.new ≡ heard (phase_in machine.old) kept.now.place kept.now.entry) }
+    ensures err { OnErr result (phase_in machine.new ≡ phase_in machine.old) }
+    ensures client { client_in machine.new ≡ client_in machine.old }
+    ensures index { index_in machine.new ≡ index_in machine.old }
+{
+    if machine.finished().is_some() {
+        return Ok(());
+    }
+    machine.hear(kept.place, &kept.entry)
+}
+
+impl ClientState {
+    ghost use Rattle.cfs_actor.specs.Clients.{client_of, progress_of, is_settled};
+
+    /// The client with these calls to make.
+    pub fn new(alloc: Global, client: Client, calls: CallQueue) -> ClientState
+        ensures progress { progress_of result ≡ starts calls }
+        ensures client { client_of result ≡ client }
+        ensures settled { IsTrue (is_settled result) }
+    {
+        let mut waiting = calls;
+        let current = next_call(client, &mut waiting);
+        ClientState {
+            client,
+            current,
+            waiting,
+            ended: false,
+            last: 0,
+            done: CallList::new(alloc),
+            kept: None,
+        }
+    }
+
+    /// The client.
+    pub fn client(&self) -> Client
+        ensures { result ≡ client_of self.now }
+    {
+        self.client
+    }
+
+    /// The client's last number, 0 before its first step.
+    pub fn last(&self) -> Ts
+        requires { IsTrue (is_settled self.now) }
+        ensures { result ≡ (progress_of self.now).last }
+    {
+        self.last
+    }
+
+    /// Whether the client has made its End step.
+    pub fn has_ended(&self) -> bool
+        requires { IsTrue (is_settled self.now) }
+        ensures { result ≡ (progress_of self.now).ended }
+    {
+        self.ended
+    }
+
+    /// The next ask: that of the current call, and End after the last.
+    pub fn ask(&self) -> Result<Ask, NoMemory>
+        requires settled { IsTrue (is_settled self.now) }
+        requires going { (progress_of self.now).ended ≡ false }
+        ensures { IfOk result (λ ask. Some ask ≡ next_ask (client_of self.now) (progress_of self.now)) }
+    {
+        match &self.current {
+            Some(machine) => machine.ask(self.last),
+            None => Ok(Ask::End {
+                client: self.client,
+            }),
+        }
+    }
+
+    /// Takes the entry of the step that was asked; it takes no memory.
+    pub fn hear(&mut self, place: PlaceNo, entry: Entry)
+        requires settled { IsTrue (is_settled self.old) }
+        requires going { (progress_of self.old).ended ≡ false }
+        requires listed { IsTrue (answers_now (progress_of self.old).current entry.answer) }
+        ensures progress { progress_of self.new ≡ hears (progress_of self.old) place entry }
+        ensures client { client_of self.new ≡ client_of self.old }
+    {
+        self.last = entry.number;
+        if self.current.is_none() {
+            self.ended = true;
+        } else {
+            self.kept = Some(KeptEntry { place, entry });
+        }
+    }
+
+    /// Works a kept entry in. On Err it is still kept.
+    pub fn settle(&mut self) -> Result<(), NoMemory>
+        ensures progress { progress_of self.new ≡ progress_of self.old }
+        ensures client { client_of self.new ≡ client_of self.old }
+        ensures settled { OnOk result (IsTrue (is_settled self.new)) }
+    {
+        let Some(kept) = &self.kept else {
+            return Ok(());
+        };
+        let Some(machine) = &mut self.current else {
+            return Ok(());
+        };
+        hear_kept(machine, kept)?;
+        if let Some(done) = machine.finished() {
+            let done = done.clone()?;
+            if self.done.push(done).is_err() {
+                return Err(NoMemory);
+            }
+            self.current = next_call(self.client, &mut self.waiting);
+        }
+        self.kept = None;
+        Ok(())
+    }
+
+    /// The client's finished calls, and the one that has begun.
+    pub fn calls(&self) -> Result<ClientCalls, NoMemory>
+        requires { IsTrue (is_settled self.now) }
+        ensures { IfOk result (λ calls. calls ≡ calls_of (client_of self.now) (progress_of self.now)) }
+    {
+        let begun = match &self.current {
+            Some(machine) => machine.begun()?,
+            None => None,
+        };
+        Ok(ClientCalls {
+            client: self.client,
+            done: self.done.copy()?,
+            begun,
+        })
+    }
+}
