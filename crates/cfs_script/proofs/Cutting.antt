@@ -1,10 +1,9 @@
 -- What a cut at the first such byte leaves of the pieces.
-use Rattle.std.proofs.Common.{◌≡◌, ℕ, ◌+◌, ◌<◌, ◌≤◌, suc, Bool, true, false, not, cond, List, [], ◌∷◌, ◌++◌, Option, Some, None, refl, ap, sym, ◌∙◌, take, drop, length, arith, ltb, eqb}
-use Rattle.std.specs.List.{slice_split, position, position_or_len, prefix_len, before_first, after_first, onto_first}
+use Rattle.std.proofs.Common.{◌≡◌, ℕ, ◌+◌, ◌<◌, ◌≤◌, suc, Bool, true, false, not, cond, List, [], ◌∷◌, Some, None, refl, ap, ◌∙◌, take, drop, length, arith, eqb}
+use Rattle.std.specs.List.{slice_split, position, position_or_len, onto_first}
 use Rattle.std.proofs.lemmas.List.Splits.{slice_split_first, length-slice_split}
-use Rattle.std.proofs.lemmas.Grind.{common_steps}
 use Rattle.std.proofs.lemmas.Bool.Decides.{nat_tests}
-use Rattle.cfs_script.specs.Pieces.{pieces, all_but_last, last_of, lines, rest_of_lines}
+use Rattle.cfs_script.specs.Pieces.{pieces, lines, rest_of_lines}
 use Rattle.cfs_script.specs.declared.reading.Reading.{Reading}
 use Rattle.cfs_script.specs.Scripts.{client_line, turns_line, with_turns}
 

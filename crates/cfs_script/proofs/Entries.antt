@@ -1,12 +1,12 @@
 -- Bytes that are no name.
-use Rattle.std.proofs.Common.{◌≡◌, ℕ, ◌<◌, ◌≤◌, suc, ◌+◌, Bool, true, false, cond, List, [], ◌∷◌, length, refl, arith}
-use Rattle.std.specs.Prelude.{not, ◌&&◌, Option, Some, None, Result, Ok, Err, nat_le, nat_lt}
+use Rattle.std.proofs.Common.{◌≡◌, ℕ, ◌<◌, suc, ◌+◌, Bool, true, false, cond, List, [], ◌∷◌, length, refl, arith}
+use Rattle.std.specs.Prelude.{not, ◌&&◌, Some, None, Err, nat_le, nat_lt}
 use Rattle.std.specs.List.{list_all, position, position_or_len}
 use Rattle.std.proofs.lemmas.Bool.Decides.{nat_tests}
 use Rattle.cfs_ids.specs.declared.name.NameFault.TheVariants.{Empty, BadByte, TooLong}
 use Rattle.cfs_ids.specs.NameFaults.{ReadsName}
 use Rattle.cfs_ids.specs.Names.{is_allowed, is_name, first_bad}
-use Rattle.cfs_script.specs.Fields.{is_dots, entry_of}
+use Rattle.cfs_script.specs.Fields.{entry_of}
 
 some_fails : (p : ℕ → Bool) (xs : List ℕ) → position_or_len (λ b. not (p b)) xs < length xs → list_all p xs ≡ false
 some_fails p [] h = absurd (omega arith)

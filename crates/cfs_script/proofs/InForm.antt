@@ -1,5 +1,5 @@
 -- A script that is read is in form.
-use Rattle.std.proofs.Common.{◌≡◌, ℕ, ◌<◌, ◌≤◌, ◌+◌, nat_le, nat_lt, ◌==◌, Bool, true, false, cond, ◌&&◌, List, [], ◌∷◌, ◌++◌, length, length-append, refl, ap, sym, ◌∙◌, arith, Option, Some, None, Result, Ok, Err, take}
+use Rattle.std.proofs.Common.{◌≡◌, ℕ, ◌<◌, ◌≤◌, ◌+◌, nat_le, nat_lt, ◌==◌, Bool, true, false, cond, ◌&&◌, List, [], ◌∷◌, ◌++◌, length, length-append, refl, arith, Option, Some, None, Ok, Err, take}
 use Rattle.std.specs.Prelude.{IsTrue, not, ◌||◌, codes, option_and_then}
 use Rattle.std.specs.List.{list_all}
 use Rattle.std.specs.Str.{bytes_eq}
@@ -11,7 +11,7 @@ use Rattle.cfs_script.specs.declared.command.Command.{Command}
 use Rattle.cfs_script.specs.declared.script.Script.{Script}
 use Rattle.cfs_script.specs.declared.reading.Reading.{Reading}
 use Rattle.cfs_script.specs.Fields.{is_numeral, value, client_of, command_of}
-use Rattle.cfs_script.specs.Lists.{rises_from, is_in, with_command}
+use Rattle.cfs_script.specs.Lists.{is_in}
 use Rattle.cfs_script.specs.Pieces.{pieces, lines, rest_of_lines}
 use Rattle.cfs_script.specs.Scripts.{is_list, start, ordered, turned, with_order, client_line, with_turn, with_turns, turns_line, by_fields, with_line, or_line, after_lines, by_lines, script_of, most_bytes}
 use Rattle.cfs_script.specs.Outcomes.{IsInForm, is_turn_of}

@@ -1,5 +1,5 @@
 -- The bytes within the limit.
-use Rattle.std.proofs.Common.{◌≡◌, ℕ, ◌+◌, ◌==◌, ◌&&◌, nat_le, min, Bool, List, [], ◌∷◌, zero, suc, add-one, take, drop, length, sym, refl, ap, ◌∙◌, arith}
+use Rattle.std.proofs.Common.{◌≡◌, ℕ, ◌+◌, ◌==◌, ◌&&◌, nat_le, min, Bool, List, [], ◌∷◌, zero, suc, add-one, take, length, refl, ap, ◌∙◌, arith}
 use Rattle.std.proofs.lemmas.List.{take_min, length-take}
 use Rattle.std.proofs.lemmas.Bool.Decides.{nat_tests}
 use Rattle.cfs_script.specs.Pieces.{lines, rest_of_lines}

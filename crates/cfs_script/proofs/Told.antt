@@ -1,5 +1,5 @@
 -- What was read of a source, from what its bytes give.
-use Rattle.std.proofs.Common.{◌≡◌, ℕ, ◌+◌, List, take, sym, ap, ◌∙◌, Some, Ok, Err, Result}
+use Rattle.std.proofs.Common.{◌≡◌, ℕ, List, sym, ap, ◌∙◌, Some, Ok, Err, Result}
 use Rattle.std.specs.Prelude.{IfOk, IfErr}
 use Rattle.std.specs.declared.option.Option.{Option}
 use Rattle.cfs_io.specs.Input.{ReadsWithin}

@@ -9,6 +9,8 @@ mod lists;
 mod read;
 mod reading;
 mod script;
+#[cfg(test)]
+mod tests;
 mod turns;
 
 pub use command::{Command, CommandList};

@@ -1,4 +1,4 @@
-use Rattle.std.proofs.Common.{List, ℕ, take, length, nat_le, refl, ap}
+use Rattle.std.proofs.Common.{ℕ, take, length, nat_le, refl, ap}
 use Rattle.cfs_script.specs.Scripts.{most_bytes}
 use Rattle.cfs_script.proofs.Limits.{script_of_is}
 use Rattle.cfs_script.proofs.read.script_in.Goals as goal
