@@ -1,5 +1,7 @@
 pub mod Among
 pub mod Counting
+pub mod Ends
 pub mod Listed
+pub mod Shown
 pub mod States
 pub mod Turns

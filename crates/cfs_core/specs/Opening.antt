@@ -1,7 +1,10 @@
 -- The calls of the clients of a script.
-use Rattle.std.specs.Prelude.{ℕ, List, [], ◌∷◌, map, ◌==◌, if◌then◌else◌}
+use Rattle.std.specs.Prelude.{◌≡◌, ℕ, List, [], ◌∷◌, map, ◌==◌, if◌then◌else◌}
 use Rattle.cfs_ids.specs.declared.ids.Client.{Client}
 use Rattle.cfs_ids.specs.declared.call.Call.{Call}
+use Rattle.cfs_rules.specs.Worlds.{Progress, starts}
+use Rattle.cfs_actor.specs.declared.client_state.ClientState.{ClientState}
+use Rattle.cfs_actor.specs.Clients.{client_of, progress_of}
 use Rattle.cfs_script.specs.declared.command.Command.{Command}
 use Rattle.cfs_script.specs.Calls.{call_of}
 
@@ -12,3 +15,14 @@ calls_in (list ∷ lists) c = if list.0.0 == c then map call_of list.1 else call
 
 abbrev pub members_in : List (Client × List Command) → List ℕ
 members_in lists = map (λ list. list.0.0) lists
+
+-- a client with its progress
+abbrev pub shown : ClientState → Client × Progress
+shown state = (client_of state, progress_of state)
+
+abbrev pub started : Client × List Command → Client × Progress
+started list = (list.0, starts (map call_of list.1))
+
+-- the states are those of the lists' clients, one after the other, at their start
+abbrev pub StartsAs : List ClientState → List (Client × List Command) → Type 0
+StartsAs states lists = map shown states ≡ map started lists

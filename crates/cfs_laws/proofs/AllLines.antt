@@ -24,7 +24,7 @@ use Rattle.cfs_laws.proofs.Pasts.{EndsIn, IsRight, IsPlaced, LinesHold, Begun, P
 use Rattle.std.specs.List.{list_any}
 use Rattle.cfs_rules.specs.Worlds.{calls_of}
 use Rattle.cfs_rules.specs.Histories.{lines_of}
-use Rattle.cfs_laws.specs.Members.{IsBelowAll, IsRising}
+use Rattle.cfs_rules.specs.Members.{IsBelowAll, IsRising}
 use Rattle.cfs_laws.proofs.Lists.{Every-like, Pairs-like, Pairs-with, Pairs-append, Across-always}
 use Rattle.cfs_laws.proofs.Keys.{all_keys}
 

@@ -14,7 +14,7 @@ use Rattle.cfs_steps.specs.declared.call_done.CallDone.{CallDone}
 use Rattle.cfs_steps.specs.Asks.{place_of}
 use Rattle.cfs_steps.specs.Phases.{Phase, ask_of}
 use Rattle.cfs_rules.specs.Worlds.{World, Progress, client_of, first_of, opening, set_client, hears, step_in, step, turn_of, turn, run_of}
-use Rattle.cfs_laws.specs.Members.{HasCallers}
+use Rattle.cfs_rules.specs.Members.{HasCallers}
 use Rattle.cfs_laws.proofs.Stamps.{moved_in}
 use Rattle.cfs_laws.proofs.Keys.{keys_at, own_keys}
 use Rattle.cfs_laws.proofs.Pasts.{own_lines, ClientPast}

@@ -10,7 +10,7 @@ use Rattle.cfs_rules.specs.Known.{Known}
 use Rattle.cfs_rules.specs.Histories.{moved_at, ordered, world_history}
 use Rattle.cfs_rules.specs.Legal.{HasPositions, StandsBefore, Apart, MovesApart, IsLegal, final}
 use Rattle.cfs_laws_places.proofs.Laws.{known_of}
-use Rattle.cfs_laws.specs.Members.{IsRising, HasCallers}
+use Rattle.cfs_rules.specs.Members.{IsRising, HasCallers}
 use Rattle.cfs_laws.proofs.Stamps.{moved_in}
 use Rattle.cfs_laws.proofs.Keys.{keys_at, all_keys, lines_match}
 use Rattle.cfs_laws.proofs.Pasts.{IsPlaced}

@@ -3,7 +3,7 @@
 
 ghost use Rattle.std.specs.Prelude.{◌≡◌, ℕ, List};
 ghost use Rattle.cfs_ids.specs.declared.call.Call.{Call};
-ghost use Rattle.cfs_laws.specs.Members.{HasCallers, IsRising};
+ghost use Rattle.cfs_rules.specs.Members.{HasCallers, IsRising};
 ghost use Rattle.cfs_rules.specs.Facts.{MovesMatch};
 ghost use Rattle.cfs_rules.specs.Histories.{world_history};
 ghost use Rattle.cfs_rules.specs.Legal.{IsLegal, final};

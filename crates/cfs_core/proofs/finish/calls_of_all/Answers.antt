@@ -1,0 +1,33 @@
+use Rattle.std.proofs.Common.{◌≡◌, ◌<◌, ◌≤◌, ◌+◌, ◌++◌, ◌∷◌, [], map, take, set, get_or, length, sym, ap, ◌∙◌, arith}
+use Rattle.cfs_actor.specs.declared.client_state.ClientState.{ClientState}
+use Rattle.cfs_actor.specs.Clients.{client_of, progress_of}
+use Rattle.cfs_ids.specs.declared.ids.Client.{Client}
+use Rattle.cfs_rules.specs.Worlds.{Progress, calls_of}
+use Rattle.cfs_core.specs.Opening.{shown}
+use Rattle.cfs_core.proofs.Shown.{shown-set, shown-at, shown-length, calls_in-more}
+use Rattle.cfs_core.proofs.finish.calls_of_all.Goals as goal
+
+-- the state shows what the one that stood there did
+kept_client : (d : ClientState) (states : _) (i : _) (old new : ClientState) → old ≡ get_or states i old → client_of new ≡ client_of old → client_of new ≡ client_of (get_or states i old)
+kept_client d states i old new is same = same ∙ ap client_of is
+
+kept_progress : (d : ClientState) (states : _) (i : _) (old new : ClientState) → old ≡ get_or states i old → progress_of new ≡ progress_of old → progress_of new ≡ progress_of (get_or states i old)
+kept_progress d states i old new is same = same ∙ ap progress_of is
+
+pub returns-in_err-settle-clause-same : goal.returns-in_err-settle-clause-same
+returns-in_err-settle-clause-same c = let old = c.index_mut-state.result.now in let is = c.index_mut-state.ensures.value in
+    shown-set c.loop-i.clients.items c.loop-i.i c.settle.new.self old (kept_client old _ _ old _ is c.settle.ensures.client) (kept_progress old _ _ old _ is c.settle.ensures.progress) ∙ c.loop-i.invariant.same
+
+pub returns-in_err-calls-clause-same : goal.returns-in_err-calls-clause-same
+returns-in_err-calls-clause-same c = let old = c.index_mut-state.result.now in let is = c.index_mut-state.ensures.value in
+    shown-set c.loop-i.clients.items c.loop-i.i c.settle.new.self old (kept_client old _ _ old _ is c.settle.ensures.client) (kept_progress old _ _ old _ is c.settle.ensures.progress) ∙ c.loop-i.invariant.same
+
+pub returns-in_err-push-clause-same : goal.returns-in_err-push-clause-same
+returns-in_err-push-clause-same c = let old = c.index_mut-state.result.now in let is = c.index_mut-state.ensures.value in
+    shown-set c.loop-i.clients.items c.loop-i.i c.settle.new.self old (kept_client old _ _ old _ is c.settle.ensures.client) (kept_progress old _ _ old _ is c.settle.ensures.progress) ∙ c.loop-i.invariant.same
+
+pub loop-i-preserved : goal.loop-i-preserved
+loop-i-preserved c = let old = c.index_mut-state.result.now in let is = c.index_mut-state.ensures.value in
+    record {
+      same = shown-set c.loop-i.clients.items c.loop-i.i c.settle.new.self old (kept_client old _ _ old _ is c.settle.ensures.client) (kept_progress old _ _ old _ is c.settle.ensures.progress) ∙ c.loop-i.invariant.same;
+      so_far = ? }

@@ -1,0 +1,67 @@
+//! The clients of a script at their start.
+ghost use Rattle.std.specs.Prelude.{◌≡◌, IfOk, map};
+ghost use Rattle.cfs_rules.specs.Worlds.{starts};
+ghost use Rattle.cfs_script.specs.Calls.{call_of};
+ghost use Rattle.cfs_actor.specs.Clients.{client_of, progress_of};
+ghost use Rattle.cfs_core.specs.Opening.{StartsAs};
+
+use cfs_actor::{CallQueue, ClientState};
+use cfs_ids::{Call, Client, DirId, NoMemory};
+use cfs_script::{Command, CommandList};
+use std::alloc::Global;
+
+// The call of a command, in the root.
+fn call_of_command(command: &Command) -> Result<Call, NoMemory>
+    ensures { IfOk result (λ call. call ≡ call_of command.now) }
+{
+    let dir = DirId(0);
+    match command {
+        Command::Create(name) => Ok(Call::Create {
+            dir,
+            name: name.copy()?,
+        }),
+        Command::Lookup(name) => Ok(Call::Lookup {
+            dir,
+            name: name.copy()?,
+        }),
+        Command::List => Ok(Call::List { dir }),
+    }
+}
+
+// The calls of commands, in order.
+fn queue_of(alloc: Global, commands: &[Command]) -> Result<CallQueue, NoMemory>
+    ensures { IfOk result (λ queue. queue ≡ map call_of commands.now) }
+{
+    let mut queue = CallQueue::new(alloc);
+    for command in commands {
+        queue.push(call_of_command(command)?)?;
+    }
+    Ok(queue)
+}
+
+// A client at its start.
+fn state_of(
+    alloc: Global,
+    client: Client,
+    commands: &CommandList,
+) -> Result<ClientState, NoMemory>
+    ensures client { IfOk result (λ state. client_of state ≡ client) }
+    ensures progress { IfOk result (λ state. progress_of state ≡ starts (map call_of commands.now)) }
+{
+    let queue = queue_of(alloc, commands.as_slice())?;
+    Ok(ClientState::new(alloc, client, queue))
+}
+
+/// The clients of these lists at their start.
+pub fn states_of(
+    alloc: Global,
+    lists: &[(Client, CommandList)],
+) -> Result<Vec<ClientState>, NoMemory>
+    ensures { IfOk result (λ states. StartsAs states.items lists.now) }
+{
+    let mut states = Vec::new(alloc);
+    for list in lists {
+        states.push(state_of(alloc, list.0, &list.1)?)?;
+    }
+    Ok(states)
+}

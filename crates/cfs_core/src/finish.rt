@@ -1,0 +1,105 @@
+//! The end of a run: the entries of the logs in the order in which the places were asked, and the clients' calls.
+ghost use Rattle.std.specs.Prelude.{◌≡◌, ◌-◌, ◌≤◌, ℕ, List, IfOk, OnOk, length, map, reverse, take, slice_get};
+ghost use Rattle.std.specs.Option.{option_copied};
+ghost use Rattle.cfs_ids.specs.declared.ids.PlaceNo.{PlaceNo};
+ghost use Rattle.cfs_steps.specs.declared.entry.Entry.{Entry};
+ghost use Rattle.cfs_view.specs.Views.{held};
+ghost use Rattle.cfs_core.specs.Ends.{logs_left, IsWithin, placed, calls_in};
+ghost use Rattle.cfs_core.specs.Opening.{shown};
+ghost use Rattle.cfs_core.specs.Weave.{first_entry, without_first, taken, left as left_of, woven, logs_of};
+
+use crate::left::Left;
+use cfs_actor::ClientState;
+use cfs_history::EntryList;
+use cfs_ids::{NoMemory, PlaceNo};
+use cfs_steps::{ClientCalls, Entry};
+use cfs_view::Places;
+use std::alloc::Global;
+
+// A copy of the entry, where there is one.
+fn copy_of(entry: Option<&Entry>) -> Result<Option<Entry>, NoMemory>
+    ensures { IfOk result (λ copy. copy ≡ option_copied entry.entry) }
+{
+    match entry {
+        Some(entry) => Ok(Some(entry.copy()?)),
+        None => Ok(None),
+    }
+}
+
+// Takes the newest of the entries that are left of a log; `entry` is that entry.
+fn take_newest(left: &mut usize, entry: Option<&Entry>) -> Result<Option<Entry>, NoMemory>
+    ensures bound { left.new ≤ left.old }
+    ensures first { IfOk result (λ newest. (log : List Entry) → left.old ≤ length log → option_copied entry.entry ≡ slice_get log (left.old - 1) → (place : PlaceNo) → first_entry place (reverse (take left.old log)) ≡ placed place newest) }
+    ensures rest { OnOk result ((log : List Entry) → left.old ≤ length log → reverse (take left.new log) ≡ without_first (reverse (take left.old log))) }
+{
+    if *left == 0 {
+        return Ok(None);
+    }
+    let newest = copy_of(entry)?;
+    *left -= 1;
+    Ok(newest)
+}
+
+// Takes the newest of the entries that are left of a place's log.
+fn take_at(places: &Places, left: &mut Left, place: PlaceNo) -> Result<Option<Entry>, NoMemory>
+    requires { IsWithin left.old (held places.now) }
+    ensures taken { IfOk result (λ newest. taken place (logs_left left.old places.now) ≡ placed place newest) }
+    ensures left { OnOk result (logs_left left.new places.now ≡ left_of place (logs_left left.old places.now)) }
+    ensures within { IsWithin left.new (held places.now) }
+{
+    if place.0 < 64 {
+        let entry = places.shard().entry(left.shard.saturating_sub(1));
+        take_newest(&mut left.shard, entry)
+    } else if place.0 < 128 {
+        let entry = places.store().entry(left.store.saturating_sub(1));
+        take_newest(&mut left.store, entry)
+    } else {
+        let entry = places.roster().entry(left.roster.saturating_sub(1));
+        take_newest(&mut left.roster, entry)
+    }
+}
+
+/// The run of the logs, the oldest step first.
+pub fn entries_of(
+    alloc: Global,
+    places: &Places,
+    order: &[PlaceNo],
+) -> Result<EntryList, NoMemory>
+    ensures { IfOk result (λ entries. reverse entries ≡ woven (reverse order.now) (logs_of (held places.now))) }
+{
+    let mut left = Left {
+        shard: places.shard().count(),
+        store: places.store().count(),
+        roster: places.roster().count(),
+    };
+    let mut entries = EntryList::new(alloc);
+    let mut at = order.len();
+    while at > 0 {
+        at -= 1;
+        let place = order[at];
+        if let Some(entry) = take_at(places, &mut left, place)? {
+            if entries.push((place, entry)).is_err() {
+                return Err(NoMemory);
+            }
+        }
+    }
+    entries.reverse();
+    Ok(entries)
+}
+
+/// Works in what the clients keep, and gives their calls.
+pub fn calls_of_all(
+    alloc: Global,
+    clients: &mut Vec<ClientState>,
+) -> Result<Vec<ClientCalls>, NoMemory>
+    ensures same { map shown clients.new.items ≡ map shown clients.old.items }
+    ensures calls { IfOk result (λ calls. calls.items ≡ calls_in clients.old.items) }
+{
+    let mut calls = Vec::new(alloc);
+    for i in 0..clients.len() {
+        let state = &mut clients[i];
+        state.settle()?;
+        calls.push(state.calls()?)?;
+    }
+    Ok(calls)
+}
