@@ -15,7 +15,9 @@ ghost use Rattle.cfs_shard.specs.Bounds.{CountsWithin};
 
 use crate::answers::answer;
 use crate::changes::change;
-use cfs_ids::{Actor, DirId, FileId, Name, NoMemory, PlaceNo, RowList, Stamp, Ts, later, number_of};
+use cfs_ids::{
+    Actor, DirId, FileId, Name, NoMemory, PlaceNo, RowList, Stamp, Ts, later, number_of,
+};
 use cfs_steps::{Ask, Entry, LOG_LIMIT, Log, NUMBER_LIMIT, ServeFault};
 use cfs_table::{DirAttr, DirRec, Row, Table};
 use std::alloc::Global;
