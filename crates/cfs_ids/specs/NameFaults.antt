@@ -1,5 +1,5 @@
 -- What is wrong with bytes that are no name.
-use Rattle.std.specs.Prelude.{◌≡◌, ℕ, ◌<◌, List, [], length, Option, Some, None, Result, Ok, Err}
+use Rattle.std.specs.Prelude.{◌≡◌, ℕ, ◌<◌, List, [], length, Some, None, Result, Ok, Err}
 use Rattle.cfs_ids.specs.declared.name.NameFault.{NameFault}
 use Rattle.cfs_ids.specs.declared.name.NameFault.TheVariants.{Empty, BadByte, TooLong, NoMemory}
 use Rattle.cfs_ids.specs.Names.{first_bad}

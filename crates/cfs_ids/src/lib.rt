@@ -7,6 +7,8 @@ mod ids;
 mod memory;
 mod name;
 mod rows;
+#[cfg(test)]
+mod tests;
 mod time;
 
 pub use call::{Call, Reply};

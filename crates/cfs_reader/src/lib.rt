@@ -3,5 +3,7 @@
 
 mod reader;
 mod state;
+#[cfg(test)]
+mod tests;
 
 pub use reader::Reader;

@@ -4,6 +4,8 @@
 mod answers;
 mod changes;
 mod shard;
+#[cfg(test)]
+mod tests;
 
 pub use cfs_table::{DirAttr, DirRec, Row};
 pub use shard::Shard;

@@ -10,13 +10,16 @@ ghost use Rattle.cfs_steps.specs.declared.contents.DirRec.{DirRec};
 ghost use Rattle.cfs_maps.specs.Walks.{entries_after, first_of};
 ghost use Rattle.cfs_table.specs.Tables.{contents_of as table_of};
 ghost use Rattle.cfs_rules.specs.Places.{serve_shard, opening_shard, entry_by, number_after, is_full, names_of};
+ghost use Rattle.cfs_rules.specs.Facts.{CountsHold};
 ghost use Rattle.cfs_rules.specs.Trees.{is_named};
 ghost use Rattle.std.proofs.Props.{props};
 ghost use Rattle.cfs_shard.specs.Bounds.{CountsWithin};
 
 use crate::answers::answer;
 use crate::changes::change;
-use cfs_ids::{Actor, DirId, FileId, Name, NoMemory, PlaceNo, RowList, Stamp, Ts, later, number_of};
+use cfs_ids::{
+    Actor, DirId, FileId, Name, NoMemory, PlaceNo, RowList, Stamp, Ts, later, number_of,
+};
 use cfs_steps::{Ask, Entry, LOG_LIMIT, Log, NUMBER_LIMIT, ServeFault};
 use cfs_table::{DirAttr, DirRec, Row, Table};
 use std::alloc::Global;
@@ -137,6 +140,7 @@ impl Shard {
         ensures full { (result ≡ Err ServeFault.LogFull) ↔ (is_full (length (log_of self.old)) last (last_of self.old) ≡ true) }
         ensures err { OnErr result (shown self.new ≡ shown self.old) }
         ensures index { index_of self.new ≡ index_of self.old }
+        ensures counts { CountsHold (contents_of self.old) → CountsHold (contents_of self.new) }
     {
         if self.is_full(last) {
             return Err(ServeFault::LogFull);

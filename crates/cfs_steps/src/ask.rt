@@ -9,9 +9,14 @@ use std::alloc::AllocError;
 #[derive(Debug, Drop)]
 pub enum Ask {
     /// The row at a name.
-    Read { dir: DirId, name: Name },
+    Read {
+        dir: DirId,
+        name: Name,
+    },
     /// All rows of a directory.
-    List { dir: DirId },
+    List {
+        dir: DirId,
+    },
     /// Sets a row at a free name; `ts` is the time of the client's move.
     Insert {
         client: Client,
@@ -27,11 +32,18 @@ pub enum Ask {
         home: DirId,
     },
     /// Ends the ownership of a node's record.
-    Settle { node: Node },
+    Settle {
+        node: Node,
+    },
     /// Removes a record that the client owns.
-    TakeBack { client: Client, node: Node },
+    TakeBack {
+        client: Client,
+        node: Node,
+    },
     /// Enters the client in the roster as ended.
-    End { client: Client },
+    End {
+        client: Client,
+    },
 }
 
 // The shard of a directory: its number modulo 64.

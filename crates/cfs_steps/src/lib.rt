@@ -11,6 +11,8 @@ mod log;
 mod machine;
 mod moves;
 mod serve_fault;
+#[cfg(test)]
+mod tests;
 
 pub use answer::Answer;
 pub use ask::Ask;

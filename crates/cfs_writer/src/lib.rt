@@ -2,6 +2,8 @@
 #![tactic(auto)]
 
 mod state;
+#[cfg(test)]
+mod tests;
 mod writer;
 
 pub use writer::Writer;

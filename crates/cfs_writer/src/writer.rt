@@ -186,7 +186,12 @@ impl Creation {
 }
 
 // The state after the insert.
-fn after_insert(creation: &Creation, ts: Ts, step: Stamp, answer: &Answer) -> Result<WriterState, NoMemory>
+fn after_insert(
+    creation: &Creation,
+    ts: Ts,
+    step: Stamp,
+    answer: &Answer,
+) -> Result<WriterState, NoMemory>
     requires { IsTrue (answers_insert answer.now) }
     ensures state { IfOk result (λ state. phase_of state ≡ heard_insert creation.now.dir creation.now.name creation.now.file ts creation.now.first step answer.now) }
     ensures writing { IfOk result (λ state. IsTrue (writes state)) }

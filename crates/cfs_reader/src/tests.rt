@@ -1,0 +1,43 @@
+//! A look-up, step by step, on values typed by hand.
+use crate::Reader;
+use cfs_ids::{Actor, At, Call, Client, DirId, FileId, Name, Node, PlaceNo, Reply, Stamp};
+use cfs_steps::{Answer, Ask, Entry, Machine};
+use std::test::Fail;
+
+#[test]
+fn looks_up(rt: HostRuntime) -> Result<(), Fail> {
+    let name = Name::read(rt.alloc(), b"a")?;
+    let call = Call::Lookup {
+        dir: DirId(66),
+        name,
+    };
+    let mut reader = Reader::start(Client(1), call);
+    assert_eq!(rt; reader.next_place(), PlaceNo(2));
+    assert!(rt; reader.finished().is_none());
+    let ask = reader.ask(0)?;
+    assert!(rt; matches!(&ask, Ask::Read { dir: DirId(66), .. }));
+    let set = Stamp {
+        number: 5,
+        place: PlaceNo(2),
+    };
+    let entry = Entry {
+        actor: Actor::Client(Client(1)),
+        number: 7,
+        ask,
+        answer: Answer::Found(Node::File(FileId(64)), set),
+        moved: None,
+    };
+    reader.hear(PlaceNo(2), &entry)?;
+    let Some(done) = reader.finished() else {
+        assert!(rt; false, "a finished call");
+        return Ok(());
+    };
+    let step = Stamp {
+        number: 7,
+        place: PlaceNo(2),
+    };
+    assert_eq!(rt; done.at, At::Before(step));
+    assert_eq!(rt; done.last, step);
+    assert!(rt; matches!(&done.reply, Reply::Node(Node::File(FileId(64)))));
+    Ok(())
+}
