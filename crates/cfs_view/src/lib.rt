@@ -3,6 +3,8 @@
 
 mod counts;
 mod places;
+mod tree;
 
 pub use counts::{Tallied, tally};
 pub use places::Places;
+pub use tree::tree_of;
