@@ -1,11 +1,11 @@
 -- What a map that is made entry by entry has in the end.
-use Rattle.std.proofs.Common.{◌≡◌, List, [], ◌∷◌, map, Bool, true, false, cond, refl, sym, ◌∙◌, ap, subst, arith}
+use Rattle.std.proofs.Common.{◌≡◌, List, [], ◌∷◌, Bool, true, false, cond, refl, sym, ◌∙◌, ap, subst}
 use Rattle.std.specs.Prelude.{T, ◌&&◌, Option, Some, None}
 use Rattle.std.specs.declared.cmp.Ordering.{Ordering}
 use Rattle.std.specs.declared.cmp.Ordering.TheVariants.{Less, Equal, Greater}
 use Rattle.std.specs.Ordering.{eq_by_cmp, is_eq, is_lt}
 use Rattle.std.specs.Cmp.{IsTotalOrder}
-use Rattle.std.specs.FinMap.{FinMap, IsAntisymmetric, get, insert, empty, entries, entries_sorted, find, is_sorted, get-entries, get-insert, get-empty}
+use Rattle.std.specs.FinMap.{FinMap, IsAntisymmetric, get, empty, entries, entries_sorted, find, is_sorted, get-entries, get-insert, get-empty}
 use Rattle.std.specs.FinMap.Entries.{below_all}
 use Rattle.cfs_view.specs.Collected.{with_value, with_each}
 
@@ -35,20 +35,25 @@ module _ {K X Y : Type 0} {R : K → K → Ordering} (o : IsTotalOrder R) (same 
 
   get-with_each : (m : FinMap R Y) (es : List (K × X)) (q : K) → T (is_sorted R es) → get (with_each value m es) q ≡ given (value q) (find R q es) (get m q)
   get-with_each m [] q sorted = refl
-  get-with_each m (e ∷ es) q sorted = by_test (R q e.0) refl (below_all R e.0 es) refl sorted
+  get-with_each m (e ∷ es) q sorted = by_test (R q e.0) refl (below_all R e.0 es) refl sorted (get-with_each (with_value m e.0 (value e.0 e.1)) es q)
     where
       after : FinMap R Y
       after = with_value m e.0 (value e.0 e.1)
 
-      by_test : (r : Ordering) → R q e.0 ≡ r → (b : Bool) → below_all R e.0 es ≡ b → T (b && is_sorted R es) → get (with_each value after es) q ≡ given (value q) (cond (is_eq r) (Some e.1) (find R q es)) (get m q)
-      by_test r is false below s = absurd s
-      by_test Less is true below s = get-with_each after es q s ∙ ap (given (value q) (find R q es)) (get-with_value m e.0 q (value e.0 e.1) ∙ ap (λ r. cond (is_eq r) (given (λ (v : Option Y). v) (Some (value e.0 e.1)) (get m q)) (get m q)) is)
-      by_test Greater is true below s = get-with_each after es q s ∙ ap (given (value q) (find R q es)) (get-with_value m e.0 q (value e.0 e.1) ∙ ap (λ r. cond (is_eq r) (given (λ (v : Option Y). v) (Some (value e.0 e.1)) (get m q)) (get m q)) is)
-      by_test Equal is true below s =
-          get-with_each after es q s
+      known : Bool → Option Y
+      known b = cond b (given (λ (v : Option Y). v) (Some (value e.0 e.1)) (get m q)) (get m q)
+
+      by_test : (r : Ordering) → R q e.0 ≡ r → (b : Bool) → below_all R e.0 es ≡ b → T (b && is_sorted R es)
+          → (T (is_sorted R es) → get (with_each value after es) q ≡ given (value q) (find R q es) (get after q))
+          → get (with_each value after es) q ≡ given (value q) (cond (is_eq r) (Some e.1) (find R q es)) (get m q)
+      by_test r is false below s rest = absurd s
+      by_test Less is true below s rest = rest s ∙ ap (given (value q) (find R q es)) (get-with_value m e.0 q (value e.0 e.1) ∙ ap (λ r. known (is_eq r)) is)
+      by_test Greater is true below s rest = rest s ∙ ap (given (value q) (find R q es)) (get-with_value m e.0 q (value e.0 e.1) ∙ ap (λ r. known (is_eq r)) is)
+      by_test Equal is true below s rest =
+          rest s
           ∙ ap (λ f. given (value q) f (get after q)) (find-above q e.0 is es (subst T (sym below) tt))
           ∙ get-with_value m e.0 q (value e.0 e.1)
-          ∙ ap (λ r. cond (is_eq r) (given (λ (v : Option Y). v) (Some (value e.0 e.1)) (get m q)) (get m q)) is
+          ∙ ap (λ r. known (is_eq r)) is
           ∙ ap (λ k. given (λ (v : Option Y). v) (Some (value k e.1)) (get m q)) (sym (same q e.0 is))
 
   -- from the empty map, and through the entries of a map
