@@ -3,6 +3,7 @@ pub mod Counting
 pub mod Ends
 pub mod Listed
 pub mod Members
+pub mod Opened
 pub mod Shown
 pub mod States
 pub mod Turns
