@@ -1,6 +1,6 @@
 //! Lists of turns, and what holds of the places at every step of them.
 #![tactic(auto)]
 
-mod drive;
+mod turns;
 
-pub use drive::{Driven, drive};
+pub use turns::{Driven, drive};

@@ -2,7 +2,7 @@ use Rattle.std.proofs.Common.{◌≡◌, ◌≤◌, ◌+◌, map, take}
 use Rattle.cfs_rules.specs.Worlds.{run_of}
 use Rattle.cfs_core.specs.Clients.{number_in}
 use Rattle.cfs_core.specs.Cores.{world_of, members_of, steps_of}
-use Rattle.cfs_law_tree.proofs.drive.drive.Given as goal
+use Rattle.cfs_law_tree.proofs.turns.drive.Given as goal
 
 abbrev pub invariant-loop-actor : goal.invariant-loop-actor
 invariant-loop-actor l = record {

@@ -1,0 +1,53 @@
+use Rattle.std.proofs.Common.{◌≡◌, ◌≤◌, ◌+◌, ℕ, List, map, take, ap, sym, ◌∙◌, arith, get_or, ◌==◌, ◌<◌, length, Ok, inl, inr}
+use Rattle.std.specs.List.{list_any}
+use Rattle.cfs_ids.specs.declared.ids.Actor.TheVariants.{Client as ClientTurn}
+use Rattle.cfs_rules.specs.Worlds.{World, turn}
+use Rattle.cfs_core.specs.Clients.{number_in}
+use Rattle.cfs_core.specs.declared.turned.Turned.TheVariants.{Idle, Stepped}
+use Rattle.cfs_core.specs.Cores.{world_of, members_of}
+use Rattle.cfs_law_tree.specs.Drives.{is_turn_of}
+use Rattle.cfs_law_tree.proofs.Runs.{true-at, is-member, run-more, stops, idle-turn, counts-at, attributes-at}
+use Rattle.cfs_law_tree.proofs.turns.drive.Goals as goal
+
+pub turn-requires : goal.turn-requires
+turn-requires c = is-member c.loop-actor.core.clients.items (members_of c.args.core.now) _ c.loop-actor.invariant.members
+    (true-at (is_turn_of (members_of c.args.core.now)) c.as_slice-actor-items.result.now c.loop-actor.actor-index (ClientTurn (record { 0 = 0 })) (omega (arith, c.loop-actor-test.true)) (rw (sym c.as_slice-actor-items.ensures) at c.requires))
+
+pub returns-in_err-turn-clause-stopped : goal.returns-in_err-turn-clause-stopped
+returns-in_err-turn-clause-stopped c = λ n. stops c.args.turns.now c.loop-actor.actor-index (world_of c.args.core.now) (world_of c.turn.new.self) (c.in_err-turn.ensures.same (λ e. cc) ∙ c.loop-actor.invariant.so_far)
+
+pub returns-in_err-turn-clause-counts : goal.returns-in_err-turn-clause-counts
+returns-in_err-turn-clause-counts c = λ calls before e n. counts-at calls before (take n (map number_in c.args.turns.now)) (world_of c.args.core.now) e
+
+pub returns-in_err-turn-clause-attributes : goal.returns-in_err-turn-clause-attributes
+returns-in_err-turn-clause-attributes c = λ calls before e n. attributes-at calls before (take n (map number_in c.args.turns.now)) (world_of c.args.core.now) e
+
+pub returns-in-Full-clause-stopped : goal.returns-in-Full-clause-stopped
+returns-in-Full-clause-stopped c = λ n. stops c.args.turns.now c.loop-actor.actor-index (world_of c.args.core.now) (world_of c.turn.new.self) (c.in_ok-turn.ensures.same (λ e. cc) ∙ c.loop-actor.invariant.so_far)
+
+pub returns-in-Full-clause-counts : goal.returns-in-Full-clause-counts
+returns-in-Full-clause-counts c = λ calls before e n. counts-at calls before (take n (map number_in c.args.turns.now)) (world_of c.args.core.now) e
+
+pub returns-in-Full-clause-attributes : goal.returns-in-Full-clause-attributes
+returns-in-Full-clause-attributes c = λ calls before e n. attributes-at calls before (take n (map number_in c.args.turns.now)) (world_of c.args.core.now) e
+
+pub loop-actor-preserved : goal.loop-actor-preserved
+loop-actor-preserved c =
+    let actor = get_or c.args.turns.now c.loop-actor.actor-index (ClientTurn (record { 0 = 0 })) in
+    let within : c.loop-actor.actor-index < length c.args.turns.now = rw c.as_slice-actor-items.ensures at c.loop-actor-test.true in
+    record {
+      so_far = (elim c.in-Stepped.is [
+        | inl e ↦ rw c.as_slice-actor-items.ensures at (c.turn.ensures.stepped (c.in_ok-turn.was ∙ ap Ok e))
+        | inr e ↦ c.turn.ensures.same (rw (c.in_ok-turn.was ∙ ap Ok e) (λ (no : Ok Idle ≡ Ok Stepped). cc)) ∙ sym (idle-turn (world_of c.loop-actor.core) _ (rw c.as_slice-actor-items.ensures at (c.turn.ensures.idle.0 (c.in_ok-turn.was ∙ ap Ok e))))
+      ]) ∙ ap (λ (w : World). turn w (number_in actor)) c.loop-actor.invariant.so_far ∙ sym (run-more c.args.turns.now c.loop-actor.actor-index (ClientTurn (record { 0 = 0 })) (world_of c.args.core.now) within);
+      steps = elim c.in-Stepped.is [
+        | inl e ↦ omega (arith, c.turn.ensures.steps (c.in_ok-turn.was ∙ ap Ok e), c.loop-actor.invariant.steps)
+        | inr e ↦ omega (arith, c.turn.ensures.same_steps (rw (c.in_ok-turn.was ∙ ap Ok e) (λ (no : Ok Idle ≡ Ok Stepped). cc)), c.loop-actor.invariant.steps)
+      ];
+      members = c.turn.ensures.members ∙ c.loop-actor.invariant.members }
+
+pub returns-clause-counts : goal.returns-clause-counts
+returns-clause-counts c = λ calls before e n. counts-at calls before (take n (map number_in c.args.turns.now)) (world_of c.args.core.now) e
+
+pub returns-clause-attributes : goal.returns-clause-attributes
+returns-clause-attributes c = λ calls before e n. attributes-at calls before (take n (map number_in c.args.turns.now)) (world_of c.args.core.now) e
