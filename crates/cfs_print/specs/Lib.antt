@@ -1,3 +1,4 @@
 pub mod Pieces
 pub mod Commands
 pub mod Lines
+pub mod Summaries
