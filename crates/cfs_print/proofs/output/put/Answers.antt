@@ -1,7 +1,6 @@
-use Rattle.std.proofs.Common.{◌≡◌, ◌+◌, ◌≤◌, length, take, drop, sym, refl, arith, ◌++◌}
-use Rattle.std.proofs.lemmas.List.{take-append-drop, take_rest, length-drop}
+use Rattle.std.proofs.Common.{arith}
+use Rattle.std.proofs.lemmas.List.{take_rest, length-drop}
 use Rattle.std.proofs.Math.Seq.{take-add}
-use Rattle.std.proofs.lemmas.Result.{err_from_is_err_and}
 use Rattle.cfs_io.proofs.Written.{Appends-append, AppendsFront-kept}
 use Rattle.cfs_print.proofs.output.put.Goals as goal
 
