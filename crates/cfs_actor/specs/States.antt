@@ -40,3 +40,13 @@ is_last (Some kept) last = last == kept.entry.number
 abbrev pub answers_now : Option Phase → Answer → Bool
 answers_now None answer = true
 answers_now (Some phase) answer = answers phase answer
+
+-- the current call has still steps to make
+abbrev pub is_going_now : Option Phase → Bool
+is_going_now None = true
+is_going_now (Some phase) = is_going phase
+
+-- a client that has ended keeps no entry
+abbrev pub rests : Option KeptEntry → Bool → Bool
+rests None ended = true
+rests (Some kept) ended = not ended

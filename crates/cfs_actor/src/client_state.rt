@@ -1,10 +1,10 @@
 //! The state of a client.
-ghost use Rattle.std.specs.Prelude.{◌≡◌, ◌++◌, ◌∷◌, [], IsTrue, IfOk, OnOk, OnErr, Some, None, false};
+ghost use Rattle.std.specs.Prelude.{◌≡◌, ◌++◌, ◌∷◌, [], IsTrue, IfOk, IsOk, OnOk, OnErr, Some, None, true, false};
 ghost use Rattle.std.specs.Option.{option_map};
 ghost use Rattle.cfs_steps.specs.Phases.{heard};
 ghost use Rattle.cfs_rules.specs.Worlds.{first_of, rest_of, starts, next_ask, hears, calls_of};
 ghost use Rattle.cfs_actor.specs.CallMachines.{client_in, index_in, phase_in};
-ghost use Rattle.cfs_actor.specs.States.{with_kept, worked_in, is_own, fits, is_last, answers_now};
+ghost use Rattle.cfs_actor.specs.States.{with_kept, worked_in, is_own, fits, is_last, answers_now, is_going_now, rests};
 
 use crate::call_machine::CallMachine;
 use crate::kept::KeptEntry;
@@ -27,6 +27,7 @@ pub struct ClientState {
     ghost own: { IsTrue (is_own client current) },
     ghost fitting: { IsTrue (fits kept current) },
     ghost stamped: { IsTrue (is_last kept last) },
+    ghost resting: { IsTrue (rests kept ended) },
 }
 
 // The next call that waits, begun.
@@ -105,7 +106,8 @@ impl ClientState {
     pub fn ask(&self) -> Result<Ask, NoMemory>
         requires settled { IsTrue (is_settled self.now) }
         requires going { (progress_of self.now).ended ≡ false }
-        ensures { IfOk result (λ ask. Some ask ≡ next_ask (client_of self.now) (progress_of self.now)) }
+        ensures ask { IfOk result (λ ask. Some ask ≡ next_ask (client_of self.now) (progress_of self.now)) }
+        ensures going { IsTrue (is_going_now (progress_of self.now).current) }
     {
         match &self.current {
             Some(machine) => machine.ask(self.last),
@@ -131,11 +133,12 @@ impl ClientState {
         }
     }
 
-    /// Works a kept entry in. On Err it is still kept.
+    /// Works a kept entry in. On Err it is still kept. A client that has ended keeps none.
     pub fn settle(&mut self) -> Result<(), NoMemory>
         ensures progress { progress_of self.new ≡ progress_of self.old }
         ensures client { client_of self.new ≡ client_of self.old }
         ensures settled { OnOk result (IsTrue (is_settled self.new)) }
+        ensures ended { (progress_of self.old).ended ≡ true → IsOk result }
     {
         let Some(kept) = &self.kept else {
             return Ok(());

@@ -18,7 +18,7 @@ use Rattle.cfs_script.specs.Outcomes.{IsInForm, is_turn_of}
 use Rattle.cfs_script.proofs.Rising.{rises_from-with_command}
 
 -- a client's number is 1 to 32
-client_of-range : (word : List ℕ) (c : Client) → client_of word ≡ Some c → (0 < c.0) × (c.0 ≤ 32)
+pub client_of-range : (word : List ℕ) (c : Client) → client_of word ≡ Some c → (0 < c.0) × (c.0 ≤ 32)
 unfolding client_of
 client_of-range word c e = by_test (is_numeral word && nat_lt 0 (value word) && nat_le (value word) 32) refl e
   where
@@ -26,7 +26,7 @@ client_of-range word c e = by_test (is_numeral word && nat_lt 0 (value word) && 
     by_test false t e = cc
     by_test true t e = let is : value word ≡ c.0 = cc in let low : 0 < value word = grind (arith, nat_tests) in let high : value word ≤ 32 = grind (arith, nat_tests) in (rw (← is) low, rw (← is) high)
 
-no_items : {X : Type 0} (xs : List X) → length xs ≡ 0 → xs ≡ []
+pub no_items : {X : Type 0} (xs : List X) → length xs ≡ 0 → xs ≡ []
 no_items [] e = refl
 no_items (x ∷ xs) e = absurd (omega arith)
 

@@ -1,8 +1,11 @@
+pub mod Accepted
 pub mod Cutting
 pub mod Entries
 pub mod Grouping
 pub mod InForm
+pub mod Joined
 pub mod Limits
 pub mod Rising
 pub mod Told
 pub mod Values
+pub mod Words

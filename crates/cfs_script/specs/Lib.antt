@@ -1,5 +1,6 @@
 pub mod Calls
 pub mod Fields
+pub mod Forms
 pub mod Lists
 pub mod Outcomes
 pub mod Pieces

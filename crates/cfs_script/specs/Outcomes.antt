@@ -10,6 +10,7 @@ use Rattle.cfs_script.specs.declared.command.Command.{Command}
 use Rattle.cfs_script.specs.declared.script.Script.{Script}
 use Rattle.cfs_script.specs.declared.script.ScriptRefusal.{ScriptRefusal}
 use Rattle.cfs_script.specs.declared.script.ScriptRefusal.TheVariants.{ReadFault, Bad, NoMemory}
+use Rattle.cfs_script.specs.Forms.{IsScript}
 use Rattle.cfs_script.specs.Lists.{rises_from, is_in}
 use Rattle.cfs_script.specs.Scripts.{script_of, most_bytes}
 
@@ -27,11 +28,12 @@ pub record IsInForm (script : Script) : Type 0 where
   pub members : IsTrue (list_all (is_turn_of script.commands) script.turns)
   pub few : length script.turns ≤ 1000000
 
--- the bytes read are those of the script
+-- the bytes read are those of the script, and in the form
 pub record HasRead (old new : Option (List ℕ)) (script : Script) : Type 0 where
   pub bytes : List ℕ
   pub read : ReadsWithin most_bytes old new bytes
   pub said : script_of bytes ≡ Ok script
+  pub form : IsScript bytes script
 
 -- the bytes read break the form first at this line
 pub record HasRefused (old new : Option (List ℕ)) (line : ℕ) : Type 0 where

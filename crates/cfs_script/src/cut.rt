@@ -8,8 +8,8 @@ fn place_of(text: &[u8], byte: u8) -> Option<usize>
     text.iter().position(|b| *b == byte)
 }
 
-#[tactic(auto, using(crate::proofs::Cutting::cutting))]
 /// What stands before and after the first such byte.
+#[tactic(auto, using(crate::proofs::Cutting::cutting))]
 pub fn cut_at(text: &[u8], byte: u8) -> Option<(&[u8], &[u8])>
     ensures found { IfSome result (λ parts. pieces byte text.now ≡ parts.0.now ∷ pieces byte parts.1.now) }
     ensures shorter { IfSome result (λ parts. length parts.1.now < length text.now) }
@@ -19,8 +19,8 @@ pub fn cut_at(text: &[u8], byte: u8) -> Option<(&[u8], &[u8])>
     Some((&text[..at], &text[at + 1..]))
 }
 
-#[tactic(auto, using(crate::proofs::Cutting::cutting))]
 /// The first line without its LF, and what stands behind it.
+#[tactic(auto, using(crate::proofs::Cutting::cutting))]
 pub fn cut_line(text: &[u8]) -> Option<(&[u8], &[u8])>
     ensures found { IfSome result (λ parts. lines text.now ≡ parts.0.now ∷ lines parts.1.now) }
     ensures same_rest { IfSome result (λ parts. rest_of_lines text.now ≡ rest_of_lines parts.1.now) }

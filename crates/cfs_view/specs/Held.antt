@@ -1,5 +1,5 @@
 -- What all places hold, and how they serve an ask. A log stands the newest entry first.
-use Rattle.std.specs.Prelude.{ℕ, ◌+◌, List, [], ◌∷◌, length, Bool, true, false, nat_lt}
+use Rattle.std.specs.Prelude.{ℕ, ◌+◌, List, [], ◌∷◌, length, Bool, true, false, nat_le, nat_lt}
 use Rattle.std.specs.FinMap.{empty}
 use Rattle.cfs_ids.specs.declared.ids.Actor.{Actor}
 use Rattle.cfs_steps.specs.declared.ask.Ask.{Ask}
@@ -81,3 +81,12 @@ full_in false false h last = is_full (length h.roster_log) last h.roster_last
 
 abbrev pub full : Held → ℕ → Ask → Bool
 full h last ask = full_in (nat_lt (place_of ask).0 64) (nat_lt (place_of ask).0 128) h last
+
+-- whether the log of the ask's place has its greatest length
+abbrev pub log_full_in : Bool → Bool → Held → Bool
+log_full_in true store h = nat_le 1048576 (length h.shard_log)
+log_full_in false true h = nat_le 1048576 (length h.store_log)
+log_full_in false false h = nat_le 1048576 (length h.roster_log)
+
+abbrev pub log_full : Held → Ask → Bool
+log_full h ask = log_full_in (nat_lt (place_of ask).0 64) (nat_lt (place_of ask).0 128) h

@@ -1,0 +1,87 @@
+use Rattle.std.proofs.Common.{◌≡◌, ◌≢◌, ◌+◌, ◌≤◌, ℕ, ◌∙◌, sym, ap, subst, Some, None, get_or, set, reverse, length, arith, refl, Ok, Err, Result, ◌==◌, List, ◌⊎◌, inl, inr}
+use Rattle.std.specs.List.{position}
+use Rattle.std.proofs.lemmas.List.{length-reverse}
+use Rattle.cfs_ids.specs.declared.ids.PlaceNo.{PlaceNo}
+use Rattle.cfs_ids.specs.declared.ids.Client.{Client}
+use Rattle.cfs_rules.specs.Worlds.{Progress, set_client, next_ask}
+use Rattle.cfs_actor.specs.declared.client_state.ClientState.{ClientState}
+use Rattle.cfs_actor.specs.Clients.{client_of, progress_of}
+use Rattle.cfs_view.specs.Held.{Held}
+use Rattle.cfs_view.specs.Views.{held}
+use Rattle.cfs_core.specs.Clients.{progress_in, members_of, is_member, world_in}
+use Rattle.cfs_core.specs.Counted.{IsCounted}
+use Rattle.cfs_ids.specs.declared.memory.NoMemory.{NoMemory}
+use Rattle.cfs_core.specs.declared.turned.Turned.{Turned}
+use Rattle.cfs_core.specs.declared.turned.Turned.TheVariants.{Stepped, Idle, Full}
+use Rattle.cfs_core.specs.Weave.{world_from}
+use Rattle.cfs_core.proofs.States.{members_of-set, no-index, progress_in-at}
+use Rattle.cfs_core.proofs.Turns.{stepped-world, same-clients}
+use Rattle.cfs_core.proofs.Among.{stepped-counted, was-progress, was-client}
+use Rattle.cfs_core.proofs.Counting.{full-log, many-steps}
+use Rattle.cfs_core.proofs.turning.turn_among.Goals as goal
+
+pub unreachable-requires : goal.unreachable-requires
+unreachable-requires c = no-index c.args.clients.now.items c.args.client.0 (rw c.deref.ensures.value at (sym c.in-None.ensures)) c.requires.member
+
+pub returns-clause-members : goal.returns-clause-members
+returns-clause-members c =
+    let is = c.index_mut-state.ensures.value in
+    members_of-set c.args.clients.now.items c.in-Some.at c.turn_client.new.state c.index_mut-state.result.now
+    (ap (λ (k : Client). k.0) c.turn_client.ensures.client ∙ ap (λ (s : ClientState). (client_of s).0) is)
+
+pub returns-clause-stepped : goal.returns-clause-stepped
+returns-clause-stepped c = λ e.
+    stepped-world c.args.clients.now.items c.in-Some.at c.index_mut-state.result.now c.turn_client.new.state c.args.client (held c.args.places.now) (held c.turn_client.new.places) (reverse c.args.order.now.items) (reverse c.turn_client.new.order.items)
+    (rw c.deref.ensures.value at (sym c.in-Some.ensures)) c.index_mut-state.ensures.value c.turn_client.ensures.client (c.turn_client.ensures.stepped e)
+
+pub returns-clause-idle : goal.returns-clause-idle
+returns-clause-idle c =
+    let was : progress_in c.args.clients.now.items c.args.client.0 ≡ progress_of c.index_mut-state.result.now = was-progress c.args.clients.now.items c.in-Some.at c.index_mut-state.result.now c.args.client (rw c.deref.ensures.value at (sym c.in-Some.ensures)) c.index_mut-state.ensures.value in
+    rw was c.turn_client.ensures.idle
+
+pub returns-clause-full : goal.returns-clause-full
+returns-clause-full c = λ place e.
+    let at = rw c.deref.ensures.value at (sym c.in-Some.ensures) in
+    let is = c.index_mut-state.ensures.value in
+    let was : progress_in c.args.clients.now.items c.args.client.0 ≡ progress_of c.index_mut-state.result.now = was-progress c.args.clients.now.items c.in-Some.at c.index_mut-state.result.now c.args.client at is in
+    let whose : client_of c.index_mut-state.result.now ≡ c.args.client = was-client c.args.clients.now.items c.in-Some.at c.index_mut-state.result.now c.args.client at is in
+    let full = c.turn_client.ensures.full place e in
+    (full.0, full.1 ∙ ap (λ (p : Progress). next_ask (client_of c.index_mut-state.result.now) p) (sym was) ∙ ap (λ (k : Client). next_ask k (progress_in c.args.clients.now.items c.args.client.0)) whose, full.2,
+    full-log (reverse c.args.order.now.items) (held c.args.places.now) (progress_in c.args.clients.now.items) (progress_of c.index_mut-state.result.now) c.args.client.0 full.0 was c.requires.counted full.3)
+
+pub returns-clause-many : goal.returns-clause-many
+returns-clause-many c = λ place e.
+    let at = rw c.deref.ensures.value at (sym c.in-Some.ensures) in
+    let was : progress_in c.args.clients.now.items c.args.client.0 ≡ progress_of c.index_mut-state.result.now = was-progress c.args.clients.now.items c.in-Some.at c.index_mut-state.result.now c.args.client at c.index_mut-state.ensures.value in
+    let full = c.turn_client.ensures.full place e in
+    rw length-reverse at (many-steps (reverse c.args.order.now.items) (held c.args.places.now) (progress_in c.args.clients.now.items) full.0 c.requires.counted
+    (full-log (reverse c.args.order.now.items) (held c.args.places.now) (progress_in c.args.clients.now.items) (progress_of c.index_mut-state.result.now) c.args.client.0 full.0 was c.requires.counted full.3))
+
+pub returns-clause-same : goal.returns-clause-same
+returns-clause-same c = λ n.
+    let at = rw c.deref.ensures.value at (sym c.in-Some.ensures) in
+    let kept = same-clients c.args.clients.now.items c.in-Some.at c.index_mut-state.result.now c.turn_client.new.state c.args.client at c.index_mut-state.ensures.value c.turn_client.ensures.client (c.turn_client.ensures.same_progress n) in
+    ap (λ (cs : ℕ → Progress). world_from (reverse c.turn_client.new.order.items) (held c.turn_client.new.places) cs) kept
+    ∙ ap (λ (h : Held). world_from (reverse c.turn_client.new.order.items) h (progress_in c.args.clients.now.items)) (c.turn_client.ensures.same_held n)
+    ∙ ap (λ (o : List PlaceNo). world_from (reverse o) (held c.args.places.now) (progress_in c.args.clients.now.items)) (c.turn_client.ensures.same_order n)
+
+pub returns-clause-steps : goal.returns-clause-steps
+returns-clause-steps c = c.turn_client.ensures.one_more
+
+decided : (r : Result Turned NoMemory) → (r ≡ Ok Stepped) ⊎ (r ≢ Ok Stepped)
+decided (Ok Stepped) = inl refl
+decided (Ok Idle) = inr (λ e. cc)
+decided (Ok (Full place)) = inr (λ e. cc)
+decided (Err e) = inr (λ e. cc)
+
+pub returns-clause-counted : goal.returns-clause-counted
+returns-clause-counted c =
+    let at = rw c.deref.ensures.value at (sym c.in-Some.ensures) in
+    elim (decided c.turn_client.result) [
+      | inl e ↦ stepped-counted c.args.clients.now.items c.in-Some.at c.index_mut-state.result.now c.turn_client.new.state c.args.client (held c.args.places.now) (held c.turn_client.new.places) (reverse c.args.order.now.items) (reverse c.turn_client.new.order.items)
+          at c.index_mut-state.ensures.value c.turn_client.ensures.client (c.turn_client.ensures.stepped e) (c.turn_client.ensures.room e) c.requires.counted
+      | inr n ↦ (let kept = same-clients c.args.clients.now.items c.in-Some.at c.index_mut-state.result.now c.turn_client.new.state c.args.client at c.index_mut-state.ensures.value c.turn_client.ensures.client (c.turn_client.ensures.same_progress n) in
+          subst (λ (cs : ℕ → Progress). IsCounted (reverse c.turn_client.new.order.items) (held c.turn_client.new.places) cs) (sym kept)
+          (subst (λ (h : Held). IsCounted (reverse c.turn_client.new.order.items) h (progress_in c.args.clients.now.items)) (sym (c.turn_client.ensures.same_held n))
+          (subst (λ (o : List PlaceNo). IsCounted (reverse o) (held c.args.places.now) (progress_in c.args.clients.now.items)) (sym (c.turn_client.ensures.same_order n)) c.requires.counted)))
+    ]

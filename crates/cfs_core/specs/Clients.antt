@@ -1,0 +1,35 @@
+-- The clients of a core, as the world sees them.
+use Rattle.std.specs.Prelude.{ℕ, List, [], ◌∷◌, map, reverse, ◌==◌, Bool, if◌then◌else◌}
+use Rattle.std.specs.List.{list_any}
+use Rattle.cfs_ids.specs.declared.ids.PlaceNo.{PlaceNo}
+use Rattle.cfs_ids.specs.declared.ids.Actor.{Actor}
+use Rattle.cfs_ids.specs.declared.ids.Actor.TheVariants.{Client}
+use Rattle.cfs_rules.specs.Worlds.{World, Progress, starts}
+use Rattle.cfs_view.specs.declared.places.Places.{Places}
+use Rattle.cfs_view.specs.Views.{held}
+use Rattle.cfs_core.specs.Weave.{world_from}
+use Rattle.cfs_core.specs.Counted.{IsCounted}
+use Rattle.cfs_actor.specs.declared.client_state.ClientState.{ClientState}
+use Rattle.cfs_actor.specs.Clients.{client_of, progress_of}
+
+-- the progress of each client; one without a state has no call
+abbrev pub progress_in : List ClientState → ℕ → Progress
+progress_in [] c = starts []
+progress_in (state ∷ states) c = if (client_of state).0 == c then progress_of state else progress_in states c
+
+abbrev pub members_of : List ClientState → List ℕ
+members_of states = map (λ (state : ClientState). (client_of state).0) states
+
+-- whether the client has a state
+abbrev pub is_member : List ClientState → ℕ → Bool
+is_member states c = list_any (λ (state : ClientState). (client_of state).0 == c) states
+
+abbrev pub number_in : Actor → ℕ
+number_in (Client client) = client.0
+
+-- the world of these places and clients, the places having been asked in this order, the oldest first
+abbrev pub world_in : Places → List ClientState → List PlaceNo → World
+world_in places states order = world_from (reverse order) (held places) (progress_in states)
+
+abbrev pub CountedIn : Places → List ClientState → List PlaceNo → Type 0
+CountedIn places states order = IsCounted (reverse order) (held places) (progress_in states)

@@ -1,0 +1,6 @@
+pub mod Clients
+pub mod Cores
+pub mod Counted
+pub mod Opening
+pub mod Parts
+pub mod Weave

@@ -1,0 +1,4 @@
+pub mod Added
+pub mod Codes
+pub mod Memory
+pub mod Rows

@@ -1,0 +1,138 @@
+//! How the namespace changes.
+ghost use Rattle.std.specs.Prelude.{◌≡◌, OnOk, OnErr, IsSome, None, not, true, false};
+ghost use Rattle.std.specs.FinMap as map;
+ghost use Rattle.cfs_ids.specs.declared.call.Reply.TheVariants.{Moved};
+ghost use Rattle.cfs_ids.specs.Namespace.{after, created, create_in, with_name, forget, is_listed, IsDefined};
+ghost use Rattle.cfs_tree.specs.Added.{with_dir, with_row, with_file, timed, named};
+
+use crate::directory::Directory;
+use crate::file::FileFacts;
+use crate::namespace::Namespace;
+use cfs_ids::{Call, DirId, FileId, Name, NoMemory, Node, Ts};
+use cfs_maps::NumberMap;
+use std::alloc::Global;
+
+// Sets a name of a directory that is there, and makes its time no earlier than this.
+fn put_name(
+    dirs: &mut NumberMap<Directory>,
+    dir: DirId,
+    name: Name,
+    node: Node,
+    time: Ts,
+) -> Result<(), NoMemory>
+    requires { IsSome (map.get dirs.old dir.0) }
+    ensures ok { OnOk result (dirs.new ≡ map.insert dirs.old dir.0 (with_name (map.get dirs.old dir.0) name node time)) }
+    ensures err { OnErr result (dirs.new ≡ dirs.old) }
+{
+    dirs.get_mut(dir.0).unwrap().put(name, node, time)
+}
+
+// Sets a name of a directory that is there.
+fn set_name(
+    dirs: &mut NumberMap<Directory>,
+    dir: DirId,
+    name: Name,
+    node: Node,
+) -> Result<(), NoMemory>
+    requires { IsSome (map.get dirs.old dir.0) }
+    ensures ok { OnOk result (dirs.new ≡ map.insert dirs.old dir.0 (named (map.get dirs.old dir.0) name node)) }
+    ensures err { OnErr result (dirs.new ≡ dirs.old) }
+{
+    dirs.get_mut(dir.0).unwrap().set(name, node)
+}
+
+// Sets the time of a directory, which has no names where it wasn't there.
+fn set_time(
+    alloc: Global,
+    dirs: &mut NumberMap<Directory>,
+    dir: DirId,
+    time: Ts,
+) -> Result<(), NoMemory>
+    ensures ok { OnOk result (dirs.new ≡ map.insert dirs.old dir.0 (timed (map.get dirs.old dir.0) time)) }
+    ensures err { OnErr result (dirs.new ≡ dirs.old) }
+{
+    if let Some(directory) = dirs.get_mut(dir.0) {
+        directory.set_time(time);
+        return Ok(());
+    }
+    match dirs.set(dir.0, Directory::new(alloc, time)) {
+        Ok(_) => Ok(()),
+        Err(_) => Err(NoMemory),
+    }
+}
+
+impl Namespace {
+    /// Makes the move of a call that is answered `Moved`, with the node that it made and its time. The Err is want of
+    /// memory, and then nothing changed.
+    pub fn apply(&mut self, call: &Call, made: Option<Node>, time: Ts) -> Result<(), NoMemory>
+        requires { IsDefined self.old call.now made }
+        ensures ok { OnOk result (self.new ≡ after self.old call.now made time) }
+        ensures err { OnErr result (self.new ≡ self.old) }
+    {
+        match (call, made) {
+            (Call::Create { dir, name }, Some(Node::File(file))) => {
+                self.create(*dir, name, file, time)
+            }
+            _ => Ok(()),
+        }
+    }
+
+    fn create(&mut self, dir: DirId, name: &Name, file: FileId, time: Ts) -> Result<(), NoMemory>
+        requires free { create_in (map.get self.old.dirs dir.0) name.now ≡ Moved }
+        requires new { map.get self.old.files file.0 ≡ None }
+        ensures ok { OnOk result (self.new ≡ created self.old dir name.now file time) }
+        ensures err { OnErr result (self.new ≡ self.old) }
+    {
+        let name = name.copy()?;
+        self.add_file(file, 0, time)?;
+        match put_name(&mut self.dirs, dir, name, Node::File(file), time) {
+            Ok(()) => Ok(()),
+            Err(failed) => {
+                let _ = self.files.cut(file.0);
+                Err(failed)
+            }
+        }
+    }
+
+    /// Takes the file out, and answers true. False comes exactly where a list names the file, and then nothing changes.
+    pub fn forget(&mut self, file: FileId) -> bool
+        ensures named { result ≡ not (is_listed self.old file.0) }
+        ensures kept { result ≡ false → self.new ≡ self.old }
+        ensures forgotten { result ≡ true → self.new ≡ forget self.old file.0 }
+    {
+        if self.is_named(file) {
+            return false;
+        }
+        let _ = self.files.cut(file.0);
+        true
+    }
+
+    /// Sets the time of the directory, which has no names where it wasn't there. The Err is want of memory, and then
+    /// nothing changed.
+    pub fn add_dir(&mut self, alloc: Global, dir: DirId, time: Ts) -> Result<(), NoMemory>
+        ensures ok { OnOk result (self.new ≡ with_dir self.old dir time) }
+        ensures err { OnErr result (self.new ≡ self.old) }
+    {
+        set_time(alloc, &mut self.dirs, dir, time)
+    }
+
+    /// Adds a row to a directory that is there. The Err is want of memory, and then nothing changed.
+    pub fn add_row(&mut self, dir: DirId, name: Name, node: Node) -> Result<(), NoMemory>
+        requires { IsSome (map.get self.old.dirs dir.0) }
+        ensures ok { OnOk result (self.new ≡ with_row self.old dir name node) }
+        ensures err { OnErr result (self.new ≡ self.old) }
+    {
+        set_name(&mut self.dirs, dir, name, node)
+    }
+
+    /// Sets the size and the time of the file. The Err is want of memory, and then nothing changed.
+    pub fn add_file(&mut self, file: FileId, size: u64, time: Ts) -> Result<(), NoMemory>
+        ensures ok { OnOk result (self.new ≡ with_file self.old file size time) }
+        ensures err { OnErr result (self.new ≡ self.old) }
+    {
+        match self.files.set(file.0, FileFacts::new(size, time)) {
+            Ok(_) => Ok(()),
+            Err(_) => Err(NoMemory),
+        }
+    }
+}

@@ -1,0 +1,18 @@
+//! The sequential namespace as a program.
+#![tactic(auto)]
+
+mod answers;
+mod changes;
+mod directory;
+mod file;
+mod namespace;
+mod rows;
+mod same;
+mod walks;
+
+pub use directory::Directory;
+pub use file::FileFacts;
+pub use namespace::Namespace;
+
+#[cfg(test)]
+mod tests;

@@ -1,0 +1,44 @@
+//! The sequential namespace.
+ghost use Rattle.std.specs.Prelude.{◌≡◌, IfOk};
+ghost use Rattle.cfs_ids.specs.Namespace.{empty_root};
+
+use crate::directory::Directory;
+use crate::file::FileFacts;
+use cfs_ids::NoMemory;
+use cfs_maps::NumberMap;
+use std::alloc::Global;
+use std::marker::Model;
+
+/// The directories and the files, by their numbers.
+#[derive(Drop)]
+pub struct Namespace {
+    pub(crate) dirs: NumberMap<Directory>,
+    pub(crate) files: NumberMap<FileFacts>,
+}
+
+impl Model for Namespace {
+    ghost use Rattle.cfs_ids.specs.Namespace.{Namespace};
+    ghost use Rattle.cfs_tree.specs.Codes.{namespace_code};
+
+    ghost Value = { Namespace };
+
+    ghost coded = { namespace_code };
+
+    ghost view = { λ namespace. record { dirs = namespace.dirs; files = namespace.files } };
+}
+
+impl Namespace {
+    /// The root, empty and at time 0, and no file. The Err is want of memory.
+    pub fn empty_root(alloc: Global) -> Result<Namespace, NoMemory>
+        ensures { IfOk result (λ namespace. namespace ≡ empty_root) }
+    {
+        let mut dirs = NumberMap::new(alloc);
+        match dirs.set(0, Directory::new(alloc, 0)) {
+            Ok(_) => Ok(Namespace {
+                dirs,
+                files: NumberMap::new(alloc),
+            }),
+            Err(_) => Err(NoMemory),
+        }
+    }
+}

@@ -1,0 +1,83 @@
+//! What the names of a directory say.
+ghost use Rattle.std.specs.Prelude.{◌≡◌, IfOk, ◌^◌, ◌<◌};
+ghost use Rattle.std.specs.List.{list_any};
+ghost use Rattle.std.specs.FinMap as map;
+ghost use Rattle.cfs_ids.specs.Maps.{how_many};
+ghost use Rattle.cfs_ids.specs.Namespace.{is_dir, names_file, is_listed};
+
+use crate::directory::Directory;
+use cfs_ids::{FileId, NoMemory, Node, RowList};
+use cfs_maps::{NameMap, NumberMap};
+use std::alloc::Global;
+
+// The rows, by rising names.
+pub(crate) fn list_of(alloc: Global, names: &NameMap<Node>) -> Result<RowList, NoMemory>
+    ensures { IfOk result (λ rows. rows ≡ map.entries names.now) }
+{
+    let mut rows = RowList::new(alloc);
+    for (name, node) in names.iter() {
+        let row = (name.copy()?, *node);
+        if rows.push(row).is_err() {
+            return Err(NoMemory);
+        }
+    }
+    Ok(rows)
+}
+
+// Whether the node is a directory.
+fn is_dir(node: Node) -> bool
+    ensures { result ≡ is_dir node }
+{
+    match node {
+        Node::Dir(_) => true,
+        Node::File(_) => false,
+    }
+}
+
+// How many of the nodes are directories.
+pub(crate) fn dirs_in(names: &NameMap<Node>) -> u64
+    ensures count { result ≡ how_many (λ row. is_dir row.1) (map.entries names.now) }
+    ensures small { result < 2 ^ 63 }
+{
+    let mut count: u64 = 0;
+    for (_, node) in names.iter() {
+        if is_dir(*node) {
+            count += 1;
+        }
+    }
+    count
+}
+
+// Whether the node is this file.
+fn is_file(node: Node, file: FileId) -> bool
+    ensures { result ≡ names_file file.0 node }
+{
+    match node {
+        Node::Dir(_) => false,
+        Node::File(other) => other == file,
+    }
+}
+
+// Whether a name is this file's.
+pub(crate) fn names_it(names: &NameMap<Node>, file: FileId) -> bool
+    ensures { result ≡ list_any (λ row. names_file file.0 row.1) (map.entries names.now) }
+{
+    for (_, node) in names.iter() {
+        if is_file(*node, file) {
+            return true;
+        }
+    }
+    false
+}
+
+// Whether a directory has a name of this file.
+pub(crate) fn any_names_it(dirs: &NumberMap<Directory>, file: FileId) -> bool
+    ensures { result ≡ list_any (λ dir. list_any (λ row. names_file file.0 row.1) (map.entries dir.1.names)) (map.entries dirs.now) }
+{
+    for (_, directory) in dirs.iter() {
+        if directory.names_it(file) {
+            return true;
+        }
+    }
+    false
+}
