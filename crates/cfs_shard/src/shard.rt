@@ -1,10 +1,12 @@
 //! How a shard serves an ask.
-ghost use Rattle.std.specs.Prelude.{◌≡◌, ◌↔◌, ◌<◌, ◌+◌, ◌++◌, ◌∷◌, [], max, true, Some, IfOk, OnOk, OnErr, Err, length, slice_get};
+ghost use Rattle.std.specs.Prelude.{◌≡◌, ◌↔◌, ℕ, ◌<◌, ◌^◌, ◌+◌, ◌++◌, ◌∷◌, [], max, true, Some, IfOk, OnOk, OnErr, Err, length, slice_get};
 ghost use Rattle.std.specs.Option.{option_copied, option_map};
 ghost use Rattle.std.specs.Ordering.{nat_cmp};
 ghost use Rattle.std.specs.FinMap as map;
+ghost use Rattle.std.specs.Map.Iter.{ShowsInOrder, deref_pair};
 ghost use Rattle.cfs_ids.specs.declared.ids.DirId.{DirId};
 ghost use Rattle.cfs_ids.specs.Maps.{row_key};
+ghost use Rattle.cfs_steps.specs.declared.contents.DirRec.{DirRec};
 ghost use Rattle.cfs_maps.specs.Walks.{entries_after, first_of};
 ghost use Rattle.cfs_table.specs.Tables.{contents_of as table_of};
 ghost use Rattle.cfs_rules.specs.Places.{serve_shard, opening_shard, entry_by, number_after, is_full, names_of};
@@ -18,6 +20,7 @@ use cfs_ids::{Actor, DirId, FileId, Name, NoMemory, PlaceNo, RowList, Stamp, Ts,
 use cfs_steps::{Ask, Entry, LOG_LIMIT, Log, NUMBER_LIMIT, ServeFault};
 use cfs_table::{DirAttr, DirRec, Row, Table};
 use std::alloc::Global;
+use std::collections::btree_map::Iter;
 
 /// A shard of the service. Its place number is its index.
 #[derive(Drop)]
@@ -92,6 +95,15 @@ impl Shard {
         ensures { IfOk result (λ list. list ≡ map.entries (names_of (contents_of self.now) dir.0)) }
     {
         self.table.rows_of(dir)
+    }
+
+    /// The records, by rising directories.
+    pub fn recs(&self) -> Iter<'_, u64, DirRec>
+        ensures rest { result ≡ map.entries (contents_of self.now).recs }
+        ensures runs { ShowsInOrder (deref_pair {K = ℕ} {X = DirRec}) }
+        ensures fits { map.len (contents_of self.now).recs < 2 ^ 63 }
+    {
+        self.table.recs()
     }
 
     /// The first record above `after`, or the first of all. None comes exactly where there is none.

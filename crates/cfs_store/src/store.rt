@@ -1,9 +1,11 @@
 //! How a store serves an ask.
-ghost use Rattle.std.specs.Prelude.{◌≡◌, ◌↔◌, ◌<◌, ◌+◌, ◌++◌, ◌∷◌, [], max, true, IfOk, OnOk, OnErr, Err, length, slice_get};
+ghost use Rattle.std.specs.Prelude.{◌≡◌, ◌↔◌, ℕ, ◌<◌, ◌^◌, ◌+◌, ◌++◌, ◌∷◌, [], max, true, IfOk, OnOk, OnErr, Err, length, slice_get};
 ghost use Rattle.std.specs.Option.{option_copied, option_map};
 ghost use Rattle.std.specs.Ordering.{nat_cmp};
 ghost use Rattle.std.specs.FinMap as map;
+ghost use Rattle.std.specs.Map.Iter.{ShowsInOrder, deref_pair};
 ghost use Rattle.cfs_ids.specs.declared.ids.FileId.{FileId};
+ghost use Rattle.cfs_steps.specs.declared.contents.FileRec.{FileRec};
 ghost use Rattle.cfs_maps.specs.Walks.{entries_after, first_of};
 ghost use Rattle.cfs_rules.specs.Places.{serve_store, entry_by, number_after, is_full};
 
@@ -12,6 +14,7 @@ use cfs_ids::{Actor, FileId, NoMemory, PlaceNo, Stamp, Ts, later, number_of};
 use cfs_maps::NumberMap;
 use cfs_steps::{Ask, Entry, FileRec, LOG_LIMIT, Log, NUMBER_LIMIT, ServeFault};
 use std::alloc::Global;
+use std::collections::btree_map::Iter;
 
 /// A store of the service. Its place number is 64 plus its index.
 #[derive(Drop)]
@@ -61,6 +64,15 @@ impl Store {
         ensures { option_copied result ≡ slice_get (log_of self.now) i }
     {
         self.log.get(i)
+    }
+
+    /// The files and their records, by rising files.
+    pub fn files(&self) -> Iter<'_, u64, FileRec>
+        ensures rest { result ≡ map.entries (contents_of self.now) }
+        ensures runs { ShowsInOrder (deref_pair {K = ℕ} {X = FileRec}) }
+        ensures fits { map.len (contents_of self.now) < 2 ^ 63 }
+    {
+        self.files.iter()
     }
 
     /// The first file above `after`, or the first of all, with its record. None comes exactly where there is none.

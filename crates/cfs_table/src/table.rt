@@ -1,10 +1,12 @@
 //! The table of a shard.
-ghost use Rattle.std.specs.Prelude.{◌≡◌, [], IfOk, OnOk, IfErr, OnErr, IsSome, IsOk};
+ghost use Rattle.std.specs.Prelude.{◌≡◌, ℕ, [], IfOk, OnOk, IfErr, OnErr, IsSome, IsOk, ◌^◌, ◌<◌};
 ghost use Rattle.std.specs.Option.{option_copied, option_map};
 ghost use Rattle.std.specs.Ordering.{nat_cmp};
 ghost use Rattle.std.specs.FinMap as map;
+ghost use Rattle.std.specs.Map.Iter.{ShowsInOrder, deref_pair};
 ghost use Rattle.cfs_ids.specs.declared.ids.DirId.{DirId};
 ghost use Rattle.cfs_ids.specs.Maps.{row_key};
+ghost use Rattle.cfs_steps.specs.declared.contents.DirRec.{DirRec};
 ghost use Rattle.cfs_maps.specs.Walks.{entries_after, first_of};
 ghost use Rattle.cfs_rules.specs.Places.{names_of};
 ghost use Rattle.cfs_rules.specs.Trees.{is_named};
@@ -15,6 +17,7 @@ use cfs_ids::{DirId, FileId, Name, NoMemory, RowList};
 use cfs_maps::{NameMap, NumberMap};
 use cfs_steps::{DirRec, Row};
 use std::alloc::Global;
+use std::collections::btree_map::Iter;
 
 /// A finite map of rows, from a directory and a name, and a finite map of records, from a directory. Each call that
 /// writes changes its key alone.
@@ -93,6 +96,15 @@ impl Table {
             Ok(before) => Ok(before),
             Err((_, rec)) => Err(rec),
         }
+    }
+
+    /// The records, by rising directories.
+    pub fn recs(&self) -> Iter<'_, u64, DirRec>
+        ensures rest { result ≡ map.entries (contents_of self.now).recs }
+        ensures runs { ShowsInOrder (deref_pair {K = ℕ} {X = DirRec}) }
+        ensures fits { map.len (contents_of self.now).recs < 2 ^ 63 }
+    {
+        self.recs.iter()
     }
 
     /// The first record above `after`, or the first of all. None comes exactly where there is none.

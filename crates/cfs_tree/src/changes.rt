@@ -116,6 +116,17 @@ impl Namespace {
         set_time(alloc, &mut self.dirs, dir, time)
     }
 
+    /// Sets the whole directory. The Err is want of memory, and then nothing changed.
+    pub fn set_dir(&mut self, dir: DirId, directory: Directory) -> Result<(), NoMemory>
+        ensures ok { OnOk result (self.new ≡ record { dirs = map.insert self.old.dirs dir.0 directory; files = self.old.files }) }
+        ensures err { OnErr result (self.new ≡ self.old) }
+    {
+        match self.dirs.set(dir.0, directory) {
+            Ok(_) => Ok(()),
+            Err(_) => Err(NoMemory),
+        }
+    }
+
     /// Adds a row to a directory that is there. The Err is want of memory, and then nothing changed.
     pub fn add_row(&mut self, dir: DirId, name: Name, node: Node) -> Result<(), NoMemory>
         requires { IsSome (map.get self.old.dirs dir.0) }

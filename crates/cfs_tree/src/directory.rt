@@ -10,7 +10,7 @@ ghost use Rattle.cfs_ids.specs.declared.ids.Node.{Node};
 ghost use Rattle.cfs_ids.specs.Namespace.{children_of, links_of, names_file};
 ghost use Rattle.cfs_maps.specs.Walks.{entries_after, first_of};
 
-use crate::rows::{dirs_in, list_of, names_it};
+use crate::rows::{dirs_in, list_of, names_it, names_of};
 use crate::same::same_names;
 use cfs_ids::{FileId, Name, NoMemory, Node, RowList, Ts, later};
 use cfs_maps::NameMap;
@@ -45,6 +45,16 @@ impl Directory {
             names: NameMap::new(alloc),
             time,
         }
+    }
+
+    /// A directory of these rows. Of two rows with one name the first counts. The Err is want of memory.
+    pub fn of_rows(alloc: Global, time: Ts, rows: &RowList) -> Result<Directory, NoMemory>
+        ensures { IfOk result (λ directory. directory ≡ record { names = map.from_entries rows.now; time = time }) }
+    {
+        Ok(Directory {
+            names: names_of(alloc, rows.as_slice())?,
+            time,
+        })
     }
 
     /// The time.

@@ -1,5 +1,6 @@
 //! The sequential namespace.
 ghost use Rattle.std.specs.Prelude.{◌≡◌, IfOk};
+ghost use Rattle.std.specs.FinMap as map;
 ghost use Rattle.cfs_ids.specs.Namespace.{empty_root};
 
 use crate::directory::Directory;
@@ -28,6 +29,16 @@ impl Model for Namespace {
 }
 
 impl Namespace {
+    /// No directory and no file.
+    pub fn new(alloc: Global) -> Namespace
+        ensures { result ≡ record { dirs = map.empty; files = map.empty } }
+    {
+        Namespace {
+            dirs: NumberMap::new(alloc),
+            files: NumberMap::new(alloc),
+        }
+    }
+
     /// The root, empty and at time 0, and no file. The Err is want of memory.
     pub fn empty_root(alloc: Global) -> Result<Namespace, NoMemory>
         ensures { IfOk result (λ namespace. namespace ≡ empty_root) }

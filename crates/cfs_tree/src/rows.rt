@@ -6,7 +6,7 @@ ghost use Rattle.cfs_ids.specs.Maps.{how_many};
 ghost use Rattle.cfs_ids.specs.Namespace.{is_dir, names_file, is_listed};
 
 use crate::directory::Directory;
-use cfs_ids::{FileId, NoMemory, Node, RowList};
+use cfs_ids::{FileId, Name, NoMemory, Node, RowList};
 use cfs_maps::{NameMap, NumberMap};
 use std::alloc::Global;
 
@@ -22,6 +22,22 @@ pub(crate) fn list_of(alloc: Global, names: &NameMap<Node>) -> Result<RowList, N
         }
     }
     Ok(rows)
+}
+
+// The names of the rows and their nodes. Of two rows with one name the first counts, so the last is set first.
+pub(crate) fn names_of(alloc: Global, rows: &[(Name, Node)]) -> Result<NameMap<Node>, NoMemory>
+    ensures { IfOk result (λ names. names ≡ map.from_entries rows.now) }
+{
+    let mut names = NameMap::new(alloc);
+    let mut left = rows.len();
+    while left > 0 {
+        left -= 1;
+        let name = rows[left].0.copy()?;
+        if names.set(name, rows[left].1).is_err() {
+            return Err(NoMemory);
+        }
+    }
+    Ok(names)
 }
 
 // Whether the node is a directory.

@@ -1,5 +1,5 @@
 -- What all places hold, and how they serve an ask. A log stands the newest entry first.
-use Rattle.std.specs.Prelude.{ℕ, ◌+◌, List, [], ◌∷◌, length, Bool, true, false, nat_le, nat_lt}
+use Rattle.std.specs.Prelude.{ℕ, List, [], ◌∷◌, length, Bool, true, false, nat_le, nat_lt}
 use Rattle.std.specs.FinMap.{empty}
 use Rattle.cfs_ids.specs.declared.ids.Actor.{Actor}
 use Rattle.cfs_steps.specs.declared.ask.Ask.{Ask}

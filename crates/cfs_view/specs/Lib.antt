@@ -1,2 +1,5 @@
+pub mod Collected
 pub mod Held
+pub mod Shown
+pub mod Tallies
 pub mod Views
