@@ -2,3 +2,5 @@ pub mod Pieces
 pub mod Commands
 pub mod Lines
 pub mod Summaries
+pub mod Trees
+pub mod NamedFiles

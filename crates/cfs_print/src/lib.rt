@@ -3,11 +3,15 @@
 
 mod commands;
 mod lines;
+mod named;
 mod output;
 mod summary;
 #[cfg(test)]
 mod tests;
+mod tree;
 
 pub use commands::{CommandReply, put_command, put_commands};
 pub use lines::{put_history, put_line};
+pub use named::NamedFiles;
 pub use summary::{Summary, put_head, put_summary};
+pub use tree::{put_tree, put_unnamed};
