@@ -4,3 +4,4 @@ pub mod Lines
 pub mod Summaries
 pub mod Trees
 pub mod NamedFiles
+pub mod Texts

@@ -119,7 +119,13 @@ fn put_row_start<K: Sink>(sink: &mut K, dir: u64, name: &Name, node: Node) -> Re
 }
 
 #[tactic(auto, using(cfs_io::proofs::Written::writing), unfolding(crate::specs::Trees::row_line))]
-fn put_row<K: Sink>(sink: &mut K, tree: &Namespace, dir: u64, name: &Name, node: Node) -> Result<(), Failed>
+fn put_row<K: Sink>(
+    sink: &mut K,
+    tree: &Namespace,
+    dir: u64,
+    name: &Name,
+    node: Node,
+) -> Result<(), Failed>
     ensures ok { OnOk result (Appends (K.taken sink.old) (K.taken sink.new) (row_line tree.now dir (name.now, node))) }
     ensures front { AppendsFront (K.taken sink.old) (K.taken sink.new) (row_line tree.now dir (name.now, node)) }
     ensures cause { HasCause (K.faults sink.old) (K.faults sink.new) result }
@@ -129,7 +135,12 @@ fn put_row<K: Sink>(sink: &mut K, tree: &Namespace, dir: u64, name: &Name, node:
 }
 
 #[tactic(auto, using(cfs_io::proofs::Written::writing), unfolding(crate::specs::Trees::rows_of))]
-fn put_rows<K: Sink>(sink: &mut K, tree: &Namespace, dir: u64, directory: &Directory) -> Result<(), Failed>
+fn put_rows<K: Sink>(
+    sink: &mut K,
+    tree: &Namespace,
+    dir: u64,
+    directory: &Directory,
+) -> Result<(), Failed>
     ensures ok { OnOk result (Appends (K.taken sink.old) (K.taken sink.new) (rows_of tree.now (dir, directory.now))) }
     ensures front { AppendsFront (K.taken sink.old) (K.taken sink.new) (rows_of tree.now (dir, directory.now)) }
     ensures cause { HasCause (K.faults sink.old) (K.faults sink.new) result }
@@ -184,7 +195,13 @@ fn put_file<K: Sink>(sink: &mut K, file: u64, facts: &FileFacts) -> Result<(), F
 }
 
 #[tactic(auto, using(cfs_io::proofs::Written::writing), unfolding(crate::specs::Trees::unnamed_line))]
-fn put_unnamed_file<K: Sink>(sink: &mut K, tree: &Namespace, named: &NamedFiles, file: u64, facts: &FileFacts) -> Result<(), Failed>
+fn put_unnamed_file<K: Sink>(
+    sink: &mut K,
+    tree: &Namespace,
+    named: &NamedFiles,
+    file: u64,
+    facts: &FileFacts,
+) -> Result<(), Failed>
     requires { AreNamed named.now tree.now }
     ensures ok { OnOk result (Appends (K.taken sink.old) (K.taken sink.new) (unnamed_line tree.now (file, facts.now))) }
     ensures front { AppendsFront (K.taken sink.old) (K.taken sink.new) (unnamed_line tree.now (file, facts.now)) }
@@ -199,7 +216,11 @@ fn put_unnamed_file<K: Sink>(sink: &mut K, tree: &Namespace, named: &NamedFiles,
 
 /// Writes the lines of the files that no list names; `named` are the others. After `Failed` a front of them was taken.
 #[tactic(auto, using(cfs_io::proofs::Written::writing), unfolding(crate::specs::Trees::unnamed_lines))]
-pub fn put_unnamed<K: Sink>(sink: &mut K, tree: &Namespace, named: &NamedFiles) -> Result<(), Failed>
+pub fn put_unnamed<K: Sink>(
+    sink: &mut K,
+    tree: &Namespace,
+    named: &NamedFiles,
+) -> Result<(), Failed>
     requires { AreNamed named.now tree.now }
     ensures ok { OnOk result (Appends (K.taken sink.old) (K.taken sink.new) (unnamed_lines tree.now)) }
     ensures front { AppendsFront (K.taken sink.old) (K.taken sink.new) (unnamed_lines tree.now) }
