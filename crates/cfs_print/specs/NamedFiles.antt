@@ -1,5 +1,5 @@
 -- Which files a tree's lists name.
-use Rattle.std.specs.Prelude.{◌≡◌, ℕ, Bool, Option, is_some}
+use Rattle.std.specs.Prelude.{◌≡◌, ℕ, Bool, is_some}
 use Rattle.std.specs.FinMap.{get}
 use Rattle.cfs_ids.specs.Namespace.{Namespace, is_listed}
 use Rattle.cfs_print.specs.declared.named.NamedFiles.{NamedFiles}

@@ -1,6 +1,3 @@
-use Rattle.std.proofs.Common.{◌∙◌, ap}
-use Rattle.std.specs.Prelude.{is_some}
-use Rattle.std.specs.FinMap.{get}
 use Rattle.cfs_print.proofs.Naming.{has-insert}
 use Rattle.cfs_print.proofs.named.NamedFiles.add.Goals as goal
 
