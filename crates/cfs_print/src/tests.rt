@@ -1,0 +1,214 @@
+//! A text with each kind of line, and whole texts.
+use crate::{
+    CommandReply, NamedFiles, Printed, ReplyTable, Summary, put_commands, put_head, put_history,
+    put_summary, write_run,
+};
+use cfs_history::{History, HistoryItem, Line, Outcome};
+use cfs_ids::{Call, Client, DirId, Errno, FileId, Name, Node, Reply, RowList};
+use cfs_io::MemSink;
+use cfs_tree::{Directory, Namespace};
+use cfs_view::Tallied;
+use std::alloc::Global;
+
+#[derive(Debug, Drop)]
+enum Fail {
+    Memory,
+    Sink,
+}
+
+const FILE: Node = Node::File(FileId(64));
+
+fn name_x(alloc: Global) -> Result<Name, Fail> {
+    Name::read(alloc, b"x").map_err(|_| Fail::Memory)
+}
+
+fn one_row(alloc: Global) -> Result<Reply, Fail> {
+    let mut rows = RowList::new(alloc);
+    rows.push((name_x(alloc)?, FILE)).map_err(|_| Fail::Memory)?;
+    Ok(Reply::Rows(rows))
+}
+
+fn said(number: u64, reply: Option<Reply>) -> CommandReply {
+    CommandReply {
+        client: Client(1),
+        number,
+        reply,
+    }
+}
+
+fn add(
+    history: &mut History,
+    call: Call,
+    at: Option<u64>,
+    last: Option<u64>,
+    outcome: Outcome,
+) -> Result<(), Fail> {
+    let line = Line {
+        client: Client(2),
+        call,
+        first: 0,
+        at,
+        last,
+        outcome,
+    };
+    history
+        .push(HistoryItem::Line(line))
+        .map_err(|_| Fail::Memory)
+}
+
+fn lookup(alloc: Global) -> Result<Call, Fail> {
+    Ok(Call::Lookup {
+        dir: DirId(0),
+        name: name_x(alloc)?,
+    })
+}
+
+fn create(alloc: Global) -> Result<Call, Fail> {
+    Ok(Call::Create {
+        dir: DirId(0),
+        name: name_x(alloc)?,
+    })
+}
+
+fn lines(alloc: Global) -> Result<History, Fail> {
+    let mut history = History::new(alloc);
+    let moved = Outcome::Moved {
+        ts: 1,
+        made: Some(FILE),
+    };
+    add(&mut history, create(alloc)?, Some(1), Some(2), moved)?;
+    let found = Outcome::Reply(Reply::Node(Node::Dir(DirId(65))));
+    add(&mut history, lookup(alloc)?, Some(3), Some(3), found)?;
+    let refused = Outcome::Reply(Reply::Refused(Errno::Enoent));
+    add(&mut history, lookup(alloc)?, Some(3), Some(3), refused)?;
+    let list = Call::List { dir: DirId(0) };
+    let rows = Outcome::Reply(one_row(alloc)?);
+    add(&mut history, list, Some(4), Some(4), rows)?;
+    let unfinished = Outcome::Unfinished(Some((7, Some(FILE))));
+    add(&mut history, create(alloc)?, Some(5), None, unfinished)?;
+    add(
+        &mut history,
+        create(alloc)?,
+        None,
+        None,
+        Outcome::Unfinished(None),
+    )?;
+    Ok(history)
+}
+
+#[test]
+fn each_kind_of_line(rt: HostRuntime) -> Result<(), Fail> {
+    let alloc = rt.alloc();
+    let mut sink = MemSink::new(alloc, 1000, 7, Vec::new(alloc)).map_err(|_| Fail::Memory)?;
+    let commands = [
+        said(1, Some(Reply::Moved)),
+        said(2, Some(Reply::Node(FILE))),
+        said(3, Some(one_row(alloc)?)),
+        said(4, Some(Reply::Refused(Errno::Eexist))),
+        said(5, None),
+    ];
+    let summary = Summary {
+        steps: 6,
+        calls: 6,
+        unfinished: 2,
+        busy: 0,
+        forgets: 0,
+        owed: 1,
+        debts: 0,
+        marks: 0,
+        strays: 0,
+    };
+    put_head(&mut sink, 1, 64).map_err(|_| Fail::Sink)?;
+    put_commands(&mut sink, &commands).map_err(|_| Fail::Sink)?;
+    put_history(&mut sink, lines(alloc)?.as_slice()).map_err(|_| Fail::Sink)?;
+    put_summary(&mut sink, &summary).map_err(|_| Fail::Sink)?;
+    let text = "cfs 1\nplaces 1 64\n\
+        c 1 1 OK\nc 1 2 NODE f64\nc 1 3 LIST 1\nc 1 4 EEXIST\nc 1 5 -\n\
+        l 2 0 1 2 create 0 x = ok 1 f64\n\
+        l 2 0 3 3 lookup 0 x = node d65\n\
+        l 2 0 3 3 lookup 0 x = ENOENT\n\
+        l 2 0 4 4 list 0 = rows 1\nr x f64\n\
+        l 2 0 5 - create 0 x = unfinished 7 f64\n\
+        l 2 0 - - create 0 x = unfinished - -\n\
+        s steps=6 calls=6 unfinished=2 busy=0 forgets=0 owed=1 debts=0 marks=0 strays=0\n";
+    assert_eq!(rt; sink.bytes(), text.as_bytes());
+    Ok(())
+}
+
+fn printed(alloc: Global, tree: Namespace) -> Printed {
+    Printed {
+        shards: 1,
+        stores: 1,
+        replies: ReplyTable::new(alloc),
+        history: History::new(alloc),
+        tree,
+        steps: 0,
+        tally: Tallied {
+            owed: 0,
+            debts: 0,
+            marks: 0,
+            strays: 0,
+        },
+    }
+}
+
+#[test]
+fn nothing_happened(rt: HostRuntime) -> Result<(), Fail> {
+    let alloc = rt.alloc();
+    let mut sink = MemSink::new(alloc, 1000, 7, Vec::new(alloc)).map_err(|_| Fail::Memory)?;
+    let tree = Namespace::empty_root(alloc).map_err(|_| Fail::Memory)?;
+    let printed = printed(alloc, tree);
+    let named = NamedFiles::of(alloc, &printed.tree).map_err(|_| Fail::Memory)?;
+    write_run(&printed, &named, &mut sink).map_err(|_| Fail::Sink)?;
+    let text = "cfs 1\nplaces 1 1\n\
+        t 0 / d0 children=0 links=2 time=0\n\
+        s steps=0 calls=0 unfinished=0 busy=0 forgets=0 owed=0 debts=0 marks=0 strays=0\n";
+    assert_eq!(rt; sink.bytes(), text.as_bytes());
+    Ok(())
+}
+
+fn directory(alloc: Global, node: Node, time: u64) -> Result<Directory, Fail> {
+    let mut rows = RowList::new(alloc);
+    rows.push((name_x(alloc)?, node)).map_err(|_| Fail::Memory)?;
+    Directory::of_rows(alloc, time, &rows).map_err(|_| Fail::Memory)
+}
+
+fn two_files(alloc: Global) -> Result<Namespace, Fail> {
+    let mut tree = Namespace::new(alloc);
+    let lower = Node::Dir(DirId(65));
+    tree.set_dir(DirId(0), directory(alloc, lower, 0)?)
+        .map_err(|_| Fail::Memory)?;
+    tree.set_dir(DirId(65), directory(alloc, FILE, 4)?)
+        .map_err(|_| Fail::Memory)?;
+    tree.add_file(FileId(64), 3, 5).map_err(|_| Fail::Memory)?;
+    tree.add_file(FileId(192), 7, 6).map_err(|_| Fail::Memory)?;
+    Ok(tree)
+}
+
+#[test]
+fn a_tree(rt: HostRuntime) -> Result<(), Fail> {
+    let alloc = rt.alloc();
+    let mut sink = MemSink::new(alloc, 1000, 7, Vec::new(alloc)).map_err(|_| Fail::Memory)?;
+    let mut printed = printed(alloc, two_files(alloc)?);
+    printed.history = lines(alloc)?;
+    printed
+        .replies
+        .push(said(1, Some(Reply::Moved)))
+        .map_err(|_| Fail::Memory)?;
+    let named = NamedFiles::of(alloc, &printed.tree).map_err(|_| Fail::Memory)?;
+    write_run(&printed, &named, &mut sink).map_err(|_| Fail::Sink)?;
+    let text = "cfs 1\nplaces 1 1\nc 1 1 OK\n\
+        l 2 0 1 2 create 0 x = ok 1 f64\n\
+        l 2 0 3 3 lookup 0 x = node d65\n\
+        l 2 0 3 3 lookup 0 x = ENOENT\n\
+        l 2 0 4 4 list 0 = rows 1\nr x f64\n\
+        l 2 0 5 - create 0 x = unfinished 7 f64\n\
+        l 2 0 - - create 0 x = unfinished - -\n\
+        t 0 / d0 children=1 links=3 time=0\n\
+        t 0 x d65 children=1 links=2 time=4\n\
+        t 65 x f64 size=3 time=5\n\
+        u f192 size=7 time=6\n\
+        s steps=0 calls=6 unfinished=2 busy=0 forgets=0 owed=0 debts=0 marks=0 strays=0\n";
+    assert_eq!(rt; sink.bytes(), text.as_bytes());
+    Ok(())
+}
