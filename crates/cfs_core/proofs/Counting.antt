@@ -42,30 +42,52 @@ step-counted : (a b : Bool) (order : List PlaceNo) (h : Held) (clients : ℕ →
 step-counted true b order h clients c p ask is k room =
     let few = not_full (length h.shard_log) p.last h.shard_last room in let low = k.clients_low c in
     record {
-      total = omega (arith, k.total); shard_short = omega (arith, few); store_short = k.store_short; roster_short = k.roster_short;
-      shard_low = omega (arith, k.shard_low, low, is); store_low = omega (arith, k.store_low); roster_low = omega (arith, k.roster_low);
+      total = omega (arith, k.total);
+      shard_short = omega (arith, few);
+      store_short = k.store_short;
+      roster_short = k.roster_short;
+      shard_low = omega (arith, k.shard_low, low, is);
+      store_low = omega (arith, k.store_low);
+      roster_low = omega (arith, k.roster_low);
       clients_low = λ q. (let one = clients_low (length order) clients c p (place_of ask) (serve_in true b h (ClientActor (client_of c)) p.last ask).entry k.clients_low (omega (arith, k.shard_low, low, is)) q in omega (arith, one));
     }
 step-counted false true order h clients c p ask is k room =
     let few = not_full (length h.store_log) p.last h.store_last room in let low = k.clients_low c in
     record {
-      total = omega (arith, k.total); shard_short = k.shard_short; store_short = omega (arith, few); roster_short = k.roster_short;
-      shard_low = omega (arith, k.shard_low); store_low = omega (arith, k.store_low, low, is); roster_low = omega (arith, k.roster_low);
+      total = omega (arith, k.total);
+      shard_short = k.shard_short;
+      store_short = omega (arith, few);
+      roster_short = k.roster_short;
+      shard_low = omega (arith, k.shard_low);
+      store_low = omega (arith, k.store_low, low, is);
+      roster_low = omega (arith, k.roster_low);
       clients_low = λ q. (let one = clients_low (length order) clients c p (place_of ask) (serve_in false true h (ClientActor (client_of c)) p.last ask).entry k.clients_low (omega (arith, k.store_low, low, is)) q in omega (arith, one));
     }
 step-counted false false order h clients c p ask is k room =
     let few = not_full (length h.roster_log) p.last h.roster_last room in let low = k.clients_low c in
     record {
-      total = omega (arith, k.total); shard_short = k.shard_short; store_short = k.store_short; roster_short = omega (arith, few);
-      shard_low = omega (arith, k.shard_low); store_low = omega (arith, k.store_low); roster_low = omega (arith, k.roster_low, low, is);
+      total = omega (arith, k.total);
+      shard_short = k.shard_short;
+      store_short = k.store_short;
+      roster_short = omega (arith, few);
+      shard_low = omega (arith, k.shard_low);
+      store_low = omega (arith, k.store_low);
+      roster_low = omega (arith, k.roster_low, low, is);
       clients_low = λ q. (let one = clients_low (length order) clients c p (place_of ask) (serve_in false false h (ClientActor (client_of c)) p.last ask).entry k.clients_low (omega (arith, k.roster_low, low, is)) q in omega (arith, one));
     }
 
 turned-counted : (order : List PlaceNo) (h : Held) (clients : ℕ → Progress) (c : ℕ) (p : Progress) → clients c ≡ p → (o : Option Ask) → IsCounted order h clients → full_asked h p.last o ≡ false
     → (let part = turned (client_of c) (record { held = h; progress = p; order = order }) o in IsCounted part.order part.held (set_client clients c part.progress))
 turned-counted order h clients c p is None k room = record {
-  total = k.total; shard_short = k.shard_short; store_short = k.store_short; roster_short = k.roster_short; shard_low = k.shard_low; store_low = k.store_low; roster_low = k.roster_low;
-  clients_low = λ q. by_test q (q == c); }
+  total = k.total;
+  shard_short = k.shard_short;
+  store_short = k.store_short;
+  roster_short = k.roster_short;
+  shard_low = k.shard_low;
+  store_low = k.store_low;
+  roster_low = k.roster_low;
+  clients_low = λ q. by_test q (q == c);
+}
   where
     by_test : (q : ℕ) (b : Bool) → (if b then p else clients q).last ≤ length order
     by_test q true = subst (λ (r : Progress). r.last ≤ length order) is (k.clients_low c)

@@ -36,6 +36,7 @@ pub first-of-left : (log : List Entry) (n : ℕ) (o : Option Entry) → 0 < n �
 first-of-left log zero o some le is place = absurd (omega arith)
 first-of-left log (suc m) None some le is place = let past = none_past log m (is ∙ ap (slice_get log) (less-one m)) in absurd (omega (arith, past))
 first-of-left log (suc m) (Some entry) some le is place = rw (sym (add-one m)) (newest-first log m entry (is ∙ ap (slice_get log) (less-one m)) place)
+
 -- and those that are left then
 pub rest-of-left : (log : List Entry) (n m : ℕ) → m + 1 ≡ n → n ≤ length log → reverse (take m log) ≡ without_first (reverse (take n log))
 rest-of-left [] n m is le = absurd (omega arith)
@@ -54,5 +55,6 @@ one-back order n at place logs rest done newest is lt which first later =
   where
     opened : reverse (take n order) ≡ place ∷ reverse (take at order)
     opened = ap (λ (k : ℕ). reverse (take k order)) (sym is) ∙ reverse-take order at place lt ∙ ap (λ (p : PlaceNo). p ∷ reverse (take at order)) (sym which)
+
     steps : woven (reverse (take n order)) logs ≡ placed place newest ++ woven (reverse (take at order)) rest
     steps = ap (λ (ps : List PlaceNo). woven ps logs) opened ∙ (λ j. first j ++ woven (reverse (take at order)) (sym later j))

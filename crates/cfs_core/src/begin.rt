@@ -40,11 +40,7 @@ fn queue_of(alloc: Global, commands: &[Command]) -> Result<CallQueue, NoMemory>
 }
 
 // A client at its start.
-fn state_of(
-    alloc: Global,
-    client: Client,
-    commands: &CommandList,
-) -> Result<ClientState, NoMemory>
+fn state_of(alloc: Global, client: Client, commands: &CommandList) -> Result<ClientState, NoMemory>
     ensures client { IfOk result (λ state. client_of state ≡ client) }
     ensures progress { IfOk result (λ state. progress_of state ≡ starts (map call_of commands.now)) }
 {

@@ -60,11 +60,7 @@ fn take_at(places: &Places, left: &mut Left, place: PlaceNo) -> Result<Option<En
 }
 
 /// The run of the logs, the oldest step first.
-pub fn entries_of(
-    alloc: Global,
-    places: &Places,
-    order: &[PlaceNo],
-) -> Result<EntryList, NoMemory>
+pub fn entries_of(alloc: Global, places: &Places, order: &[PlaceNo]) -> Result<EntryList, NoMemory>
     ensures { IfOk result (λ entries. reverse entries ≡ woven (reverse order.now) (logs_of (held places.now))) }
 {
     let mut left = Left {

@@ -60,12 +60,7 @@ impl Core {
         ensures members { members_of self.new ≡ members_of self.old }
     {
         let Actor::Client(client) = actor;
-        turn_among(
-            &mut self.places,
-            &mut self.clients,
-            &mut self.order,
-            client,
-        )
+        turn_among(&mut self.places, &mut self.clients, &mut self.order, client)
     }
 
     /// Ends the run: its entries in order, the places, and the calls of the clients. The Err is want of memory alone,

@@ -18,7 +18,8 @@ of-world calls turns members rising callers = record {
   history = λ j. world_history members (run_of turns (opening calls));
   legal = history_legal calls turns members rising callers;
   last = history_final calls turns members rising callers;
-  moves = history_moves calls turns members rising callers }
+  moves = history_moves calls turns members rising callers;
+}
 
 pub of-run : (calls : ℕ → List Call) (turns members : List ℕ) (run : Run) → IsRising members → HasCallers calls members → IsRunOf members (run_of turns (opening calls)) run
     → IsJudged members (run_of turns (opening calls)) (history_of (reverse run.entries) run.calls.items)

@@ -31,9 +31,12 @@ fn take_back_answer(files: &NumberMap<FileRec>, client: Client, file: FileId) ->
     ensures { result ≡ (taken_back files.now client file (map.get files.now file.0)).answer }
 {
     match files.get(file.0) {
-        Some(FileRec {
-            owner: Some(owner), ..
-        }) if owner.0 == client.0 => Answer::Done(None),
+        Some(
+            FileRec {
+                owner: Some(owner),
+                ..
+            },
+        ) if owner.0 == client.0 => Answer::Done(None),
         _ => Answer::None,
     }
 }

@@ -103,9 +103,11 @@ module _ {X : Type 0} where
       by_test : (b : Bool) → below_all (slice_cmp nat_cmp) r.0 rs ≡ b → T (b && is_sorted (slice_cmp nat_cmp) rs) → (T (is_sorted (slice_cmp nat_cmp) rs) → Distinct (slice_cmp nat_cmp) (keyed d rs ++ ys))
           → (find (slice_cmp nat_cmp) (d ∷ r.0) (keyed d rs ++ ys) ≡ None) × Distinct (slice_cmp nat_cmp) (keyed d rs ++ ys)
       by_test true is s rest = (
-          find-append (slice_cmp nat_cmp) (d ∷ r.0) (keyed d rs) ys
-          ∙ ap (λ o. or_else o (find (slice_cmp nat_cmp) (d ∷ r.0) ys)) (find-keyed_same d r.0 rs ∙ find-above (slice_cmp nat_cmp) r.0 rs (subst T (sym is) tt))
-          ∙ none r.0, rest s)
+        find-append (slice_cmp nat_cmp) (d ∷ r.0) (keyed d rs) ys
+            ∙ ap (λ o. or_else o (find (slice_cmp nat_cmp) (d ∷ r.0) ys)) (find-keyed_same d r.0 rs ∙ find-above (slice_cmp nat_cmp) r.0 rs (subst T (sym is) tt))
+            ∙ none r.0,
+        rest s,
+      )
       by_test false is s rest = absurd s
 
   Distinct-flattened : (es : List (ℕ × Names X)) → T (is_sorted nat_cmp es) → Distinct (slice_cmp nat_cmp) (flattened es)

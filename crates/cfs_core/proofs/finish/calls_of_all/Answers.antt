@@ -38,4 +38,5 @@ loop-i-preserved c = let old = c.index_mut-state.result.now in let is = c.index_
     record {
       same = shown-set c.loop-i.clients.items c.loop-i.i c.settle.new.self old (kept_client old c.loop-i.clients.items c.loop-i.i old c.settle.new.self is c.settle.ensures.client) (kept_progress old c.loop-i.clients.items c.loop-i.i old c.settle.new.self is c.settle.ensures.progress) ∙ c.loop-i.invariant.same;
       so_far = c.in_ok-push.ensures.items ∙ (λ j. c.loop-i.invariant.so_far j ++ calls j ∷ [])
-        ∙ sym (calls_in-more c.args.clients.now.items c.loop-i.i old (rw same_length at within)) }
+          ∙ sym (calls_in-more c.args.clients.now.items c.loop-i.i old (rw same_length at within));
+    }

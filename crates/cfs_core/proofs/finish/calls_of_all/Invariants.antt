@@ -6,4 +6,5 @@ use Rattle.cfs_core.proofs.finish.calls_of_all.Given as goal
 abbrev pub invariant-loop-i : goal.invariant-loop-i
 invariant-loop-i l = record {
   same : map shown l.clients.items ≡ map shown l.fn.clients.items;
-  so_far : l.calls.items ≡ calls_in (take l.i l.fn.clients.items) }
+  so_far : l.calls.items ≡ calls_in (take l.i l.fn.clients.items);
+}

@@ -8,7 +8,8 @@ abbrev pub invariant-loop-at : goal.invariant-loop-at
 invariant-loop-at l = record {
   bound : l.at ≤ length l.order;
   within : IsWithin l.left (held l.places);
-  so_far : woven (reverse l.order) (logs_of (held l.places)) ≡ l.entries ++ woven (reverse (take l.at l.order)) (logs_left l.left l.places) }
+  so_far : woven (reverse l.order) (logs_of (held l.places)) ≡ l.entries ++ woven (reverse (take l.at l.order)) (logs_left l.left l.places);
+}
 
 abbrev pub decreases-loop-at : goal.decreases-loop-at
 decreases-loop-at l = l.at

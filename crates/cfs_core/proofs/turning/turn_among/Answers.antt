@@ -45,9 +45,12 @@ returns-clause-full c = λ place e.
     let is = c.index_mut-state.ensures.value in
     let was : progress_in c.args.clients.now.items c.args.client.0 ≡ progress_of c.index_mut-state.result.now = was-progress c.args.clients.now.items c.in-Some.at c.index_mut-state.result.now c.args.client at is in
     let whose : client_of c.index_mut-state.result.now ≡ c.args.client = was-client c.args.clients.now.items c.in-Some.at c.index_mut-state.result.now c.args.client at is in
-    let full = c.turn_client.ensures.full place e in
-    (full.0, full.1 ∙ ap (λ (p : Progress). next_ask (client_of c.index_mut-state.result.now) p) (sym was) ∙ ap (λ (k : Client). next_ask k (progress_in c.args.clients.now.items c.args.client.0)) whose, full.2,
-    full-log (reverse c.args.order.now.items) (held c.args.places.now) (progress_in c.args.clients.now.items) (progress_of c.index_mut-state.result.now) c.args.client.0 full.0 was c.requires.counted full.3)
+    let full = c.turn_client.ensures.full place e in (
+      full.0,
+      full.1 ∙ ap (λ (p : Progress). next_ask (client_of c.index_mut-state.result.now) p) (sym was) ∙ ap (λ (k : Client). next_ask k (progress_in c.args.clients.now.items c.args.client.0)) whose,
+      full.2,
+      full-log (reverse c.args.order.now.items) (held c.args.places.now) (progress_in c.args.clients.now.items) (progress_of c.index_mut-state.result.now) c.args.client.0 full.0 was c.requires.counted full.3,
+    )
 
 pub returns-clause-many : goal.returns-clause-many
 returns-clause-many c = λ place e.

@@ -44,7 +44,8 @@ loop-actor-preserved c =
         | inl e ↦ omega (arith, c.turn.ensures.steps (c.in_ok-turn.was ∙ ap Ok e), c.loop-actor.invariant.steps)
         | inr e ↦ omega (arith, c.turn.ensures.same_steps (rw (c.in_ok-turn.was ∙ ap Ok e) (λ (no : Ok Idle ≡ Ok Stepped). cc)), c.loop-actor.invariant.steps)
       ];
-      members = c.turn.ensures.members ∙ c.loop-actor.invariant.members }
+      members = c.turn.ensures.members ∙ c.loop-actor.invariant.members;
+    }
 
 pub returns-clause-counts : goal.returns-clause-counts
 returns-clause-counts c = λ calls before e n. counts-at calls before (take n (map number_in c.args.turns.now)) (world_of c.args.core.now) e

@@ -8,4 +8,5 @@ abbrev pub invariant-loop-actor : goal.invariant-loop-actor
 invariant-loop-actor l = record {
   so_far : world_of l.core ≡ run_of (map number_in (take l.actor-index l.turns)) (world_of l.fn.core);
   steps : steps_of l.core ≤ steps_of l.fn.core + l.actor-index;
-  members : members_of l.core ≡ members_of l.fn.core }
+  members : members_of l.core ≡ members_of l.fn.core;
+}
