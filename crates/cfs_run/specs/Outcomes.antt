@@ -22,21 +22,29 @@ code_of status.WriteFault = 5
 code_of status.NoMemory = 6
 code_of (status.LogFull place) = 7
 
--- The bytes read were those of a script, to the last of them, and all of its run's text was taken.
+-- The text of the script's run was taken, all of it.
+pub record Prints (script : Script) (old new : Option (List ℕ)) : Type 0 where
+  pub printed : Printed
+  pub run : IsRunOf script printed
+  pub taken : Appends old new (text printed)
+
+-- A front of the text of the script's run was taken.
+pub record PrintsFront (script : Script) (old new : Option (List ℕ)) : Type 0 where
+  pub printed : Printed
+  pub run : IsRunOf script printed
+  pub taken : AppendsFront old new (text printed)
+
+-- The bytes read were those of a script, to the last of them, and the text of its run was taken.
 pub record Replayed (left_old left_new taken_old taken_new : Option (List ℕ)) : Type 0 where
   pub script : Script
-  pub printed : Printed
   pub read : HasRead left_old left_new script
-  pub run : IsRunOf script printed
-  pub written : Appends taken_old taken_new (text printed)
+  pub written : Prints script taken_old taken_new
 
--- The bytes read were those of a script, to the last of them, and a front of its run's text was taken.
+-- The bytes read were those of a script, to the last of them, and a front of the text of its run was taken.
 pub record CutOff (left_old left_new taken_old taken_new : Option (List ℕ)) : Type 0 where
   pub script : Script
-  pub printed : Printed
   pub read : HasRead left_old left_new script
-  pub run : IsRunOf script printed
-  pub written : AppendsFront taken_old taken_new (text printed)
+  pub written : PrintsFront script taken_old taken_new
 
 -- a status that comes before the first byte is written
 abbrev pub ComesBeforeWriting : Status → Type 0

@@ -2,6 +2,7 @@
 #![tactic(auto)]
 
 mod middle;
+mod print;
 mod printed;
 mod status;
 mod sure;

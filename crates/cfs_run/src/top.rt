@@ -6,10 +6,9 @@ ghost use Rattle.cfs_script.specs.Outcomes.{HasRefused};
 ghost use Rattle.cfs_script.specs.Scripts.{script_of};
 ghost use Rattle.cfs_run.specs.Outcomes.{Replayed, CutOff, ComesBeforeWriting, Answers, usage_of};
 
-use crate::middle::{RunFault, printed};
-use crate::printed::write_run;
+use crate::print::{PrintFault, print};
 use crate::status::Status;
-use cfs_io::{Failed, Sink, Source};
+use cfs_io::{Sink, Source};
 use cfs_script::{Fault, ScriptRefusal, read_script};
 use std::alloc::Global;
 
@@ -45,14 +44,11 @@ pub fn replay<S: Source, K: Sink>(alloc: Global, source: &mut S, sink: &mut K) -
         ) => return Status::Script { line },
         Err(ScriptRefusal::NoMemory) => return Status::NoMemory,
     };
-    let printed = match printed(alloc, &script) {
-        Ok(printed) => printed,
-        Err(RunFault::LogFull(place)) => return Status::LogFull { place },
-        Err(RunFault::NoMemory) => return Status::NoMemory,
-    };
-    match write_run(sink, &printed) {
+    match print(alloc, &script, sink) {
         Ok(()) => Status::Done,
-        Err(Failed) => Status::WriteFault,
+        Err(PrintFault::LogFull(place)) => Status::LogFull { place },
+        Err(PrintFault::NoMemory) => Status::NoMemory,
+        Err(PrintFault::Write) => Status::WriteFault,
     }
 }
 
