@@ -10,6 +10,7 @@ use std::env::{self, Env};
 use std::io;
 use std::process::ExitCode;
 
+// The words after the program's name.
 fn words<R: Env + AllocGlobal>(rt: &R) -> io::Result<Vec<String>> {
     let mut words = Vec::new(rt.alloc());
     for word in env::args(rt)?.skip(1) {
