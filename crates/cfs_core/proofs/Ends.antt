@@ -1,11 +1,11 @@
 -- The newest of the entries that are left of a log.
-use Rattle.std.proofs.Common.{◌≡◌, ℕ, suc, zero, ◌+◌, ◌-◌, ◌<◌, ◌≤◌, List, [], ◌∷◌, ◌++◌, length, reverse, take, get_or, refl, sym, ap, ◌∙◌, arith, add-one}
+use Rattle.std.proofs.Common.{◌≡◌, ℕ, suc, zero, ◌+◌, ◌-◌, ◌<◌, ◌≤◌, List, [], ◌∷◌, ◌++◌, length, reverse, take, get_or, refl, sym, ap, ◌∙◌, arith, add-one, append_assoc}
 use Rattle.std.specs.Prelude.{Option, Some, None, slice_get}
 use Rattle.std.proofs.lemmas.List.{take_more, reverse-append}
 use Rattle.cfs_ids.specs.declared.ids.PlaceNo.{PlaceNo}
 use Rattle.cfs_steps.specs.declared.entry.Entry.{Entry}
 use Rattle.cfs_core.specs.Ends.{placed}
-use Rattle.cfs_core.specs.Weave.{first_entry, without_first}
+use Rattle.cfs_core.specs.Weave.{Logs, first_entry, without_first, taken, left, woven}
 
 pub reverse-take : {X : Type 0} (xs : List X) (i : ℕ) (d : X) → i < length xs → reverse (take (i + 1) xs) ≡ get_or xs i d ∷ reverse (take i xs)
 reverse-take xs i d lt = ap reverse (take_more xs i d lt) ∙ reverse-append (take i xs) (get_or xs i d ∷ [])
@@ -44,3 +44,15 @@ rest-of-left (e ∷ es) n m is le = newest-rest (e ∷ es) m e (omega arith) ∙
 -- of none there is no newest
 pub first-of-none : (log : List Entry) (place : PlaceNo) → first_entry place (reverse (take 0 log)) ≡ placed place None
 first-of-none log place = refl
+
+-- one place back in the order
+pub one-back : (order : List PlaceNo) (n at : ℕ) (place : PlaceNo) (logs rest : Logs) (done : List (PlaceNo × Entry)) (newest : Option Entry) → at + 1 ≡ n → at < length order → place ≡ get_or order at place → taken place logs ≡ placed place newest → rest ≡ left place logs
+    → (done ++ placed place newest) ++ woven (reverse (take at order)) rest ≡ done ++ woven (reverse (take n order)) logs
+one-back order n at place logs rest done newest is lt which first later =
+    append_assoc done (placed place newest) (woven (reverse (take at order)) rest)
+    ∙ ap (λ (es : List (PlaceNo × Entry)). done ++ es) (sym (steps))
+  where
+    opened : reverse (take n order) ≡ place ∷ reverse (take at order)
+    opened = ap (λ (k : ℕ). reverse (take k order)) (sym is) ∙ reverse-take order at place lt ∙ ap (λ (p : PlaceNo). p ∷ reverse (take at order)) (sym which)
+    steps : woven (reverse (take n order)) logs ≡ placed place newest ++ woven (reverse (take at order)) rest
+    steps = ap (λ (ps : List PlaceNo). woven ps logs) opened ∙ (λ j. first j ++ woven (reverse (take at order)) (sym later j))

@@ -2,6 +2,8 @@ pub mod Among
 pub mod Counting
 pub mod Ends
 pub mod Listed
+pub mod Members
+pub mod Opened
 pub mod Shown
 pub mod States
 pub mod Turns

@@ -4,6 +4,7 @@ use Rattle.std.specs.Prelude.{if◌then◌else◌, ◌==◌}
 use Rattle.std.proofs.lemmas.List.{take_more, map-append}
 use Rattle.cfs_ids.specs.declared.ids.Client.{Client}
 use Rattle.cfs_script.specs.declared.command.Command.{Command}
+use Rattle.cfs_script.specs.Calls.{call_of}
 use Rattle.cfs_steps.specs.declared.call_done.ClientCalls.{ClientCalls}
 use Rattle.cfs_rules.specs.Worlds.{Progress, starts, calls_of}
 use Rattle.cfs_actor.specs.declared.client_state.ClientState.{ClientState}
@@ -37,9 +38,11 @@ at_client [] (y ∷ ys) c e = cc
 at_client (x ∷ xs) [] c e = cc
 at_client (x ∷ xs) (y ∷ ys) c e =
     let rest : map shown xs ≡ map shown ys = cc in
-    let who : client_of x ≡ client_of y = cc in
-    let what : progress_of x ≡ progress_of y = cc in
-    λ j. if (who j).0 == c then what j else at_client xs ys c rest j
+    let pair : shown x ≡ shown y = cc in
+    let who : client_of x ≡ client_of y = ap (λ (e : Client × Progress). e.0) pair in
+    let what : progress_of x ≡ progress_of y = ap (λ (e : Client × Progress). e.1) pair in
+    let later = at_client xs ys c rest in
+    λ j. if (who j).0 == c then what j else later j
 
 pub progress_in-shown : (xs ys : List ClientState) → map shown xs ≡ map shown ys → progress_in xs ≡ progress_in ys
 progress_in-shown xs ys e = λ j c. at_client xs ys c e j
@@ -50,8 +53,10 @@ members_of-shown [] (y ∷ ys) e = cc
 members_of-shown (x ∷ xs) [] e = cc
 members_of-shown (x ∷ xs) (y ∷ ys) e =
     let rest : map shown xs ≡ map shown ys = cc in
-    let who : client_of x ≡ client_of y = cc in
-    λ j. (who j).0 ∷ members_of-shown xs ys rest j
+    let pair : shown x ≡ shown y = cc in
+    let who : client_of x ≡ client_of y = ap (λ (e : Client × Progress). e.0) pair in
+    let later = members_of-shown xs ys rest in
+    λ j. (who j).0 ∷ later j
 
 -- ---- the opening
 started_at : (states : List ClientState) (lists : List (Client × List Command)) (c : ℕ) → StartsAs states lists → progress_in states c ≡ starts (calls_of_lists lists c)
@@ -60,13 +65,14 @@ started_at [] (l ∷ lists) c e = cc
 started_at (s ∷ states) [] c e = cc
 started_at (s ∷ states) (l ∷ lists) c e =
     let rest : map shown states ≡ map started lists = cc in
-    let who : client_of s ≡ l.0 = cc in
-    let what : progress_of s ≡ starts (map Rattle.cfs_script.specs.Calls.call_of l.1) = cc in
+    let pair : shown s ≡ started l = cc in
+    let who : client_of s ≡ l.0 = ap (λ (e : Client × Progress). e.0) pair in
+    let what : progress_of s ≡ starts (map call_of l.1) = ap (λ (e : Client × Progress). e.1) pair in
     ap (λ (k : Client). if k.0 == c then progress_of s else progress_in states c) who
     ∙ by_test (l.0.0 == c) what (started_at states lists c rest)
   where
-    by_test : (b : Bool) → progress_of s ≡ starts (map Rattle.cfs_script.specs.Calls.call_of l.1) → progress_in states c ≡ starts (calls_of_lists lists c)
-        → (if b then progress_of s else progress_in states c) ≡ starts (if b then map Rattle.cfs_script.specs.Calls.call_of l.1 else calls_of_lists lists c)
+    by_test : (b : Bool) → progress_of s ≡ starts (map call_of l.1) → progress_in states c ≡ starts (calls_of_lists lists c)
+        → (if b then progress_of s else progress_in states c) ≡ starts (if b then map call_of l.1 else calls_of_lists lists c)
     by_test true what rest = what
     by_test false what rest = rest
 
@@ -79,8 +85,10 @@ members_of-started [] (l ∷ lists) e = cc
 members_of-started (s ∷ states) [] e = cc
 members_of-started (s ∷ states) (l ∷ lists) e =
     let rest : map shown states ≡ map started lists = cc in
-    let who : client_of s ≡ l.0 = cc in
-    λ j. (who j).0 ∷ members_of-started states lists rest j
+    let pair : shown s ≡ started l = cc in
+    let who : client_of s ≡ l.0 = ap (λ (e : Client × Progress). e.0) pair in
+    let later = members_of-started states lists rest in
+    λ j. (who j).0 ∷ later j
 
 -- one more state's calls
 pub calls_in-more : (states : List ClientState) (i : ℕ) (d : ClientState) → i < length states → calls_in (take (i + 1) states) ≡ calls_in (take i states) ++ calls_of (client_of (get_or states i d)) (progress_of (get_or states i d)) ∷ []

@@ -1,20 +1,28 @@
 //! Places and clients, turned step by step.
-ghost use Rattle.std.specs.Prelude.{◌≡◌, ◌≢◌, ◌≤◌, ◌↔◌, ◌+◌, IsTrue, true, Ok, Some, ℕ};
+ghost use Rattle.std.specs.Prelude.{◌≡◌, ◌≢◌, ◌≤◌, ◌↔◌, ◌+◌, IsTrue, true, Ok, Some, ℕ, IfOk, IfErr};
 ghost use Rattle.std.proofs.Props.{props};
 ghost use Rattle.cfs_steps.specs.declared.ask.Ask.{Ask};
 ghost use Rattle.cfs_steps.specs.Asks.{place_of};
-ghost use Rattle.cfs_rules.specs.Worlds.{turn};
+ghost use Rattle.cfs_rules.specs.Worlds.{opening, turn};
 ghost use Rattle.cfs_core.specs.Clients.{CountedIn, number_in};
+ghost use Rattle.cfs_core.specs.Finished.{IsRunOf};
+ghost use Rattle.cfs_core.specs.Opening.{calls_in, members_in};
 
+use crate::begin::states_of;
+use crate::finish::{calls_of_all, entries_of};
+use crate::run::Run;
 use crate::turned::Turned;
 use crate::turning::turn_among;
 use cfs_actor::ClientState;
 use cfs_ids::{Actor, NoMemory, PlaceNo};
+use cfs_script::Script;
 use cfs_view::Places;
+use std::alloc::Global;
 
 /// The places and the clients of a script, after some turns. It keeps the order in which the places were asked.
 #[derive(Drop)]
 pub struct Core {
+    alloc: Global,
     places: Places,
     clients: Vec<ClientState>,
     order: Vec<PlaceNo>,
@@ -23,6 +31,21 @@ pub struct Core {
 
 impl Core {
     ghost use Rattle.cfs_core.specs.Cores.{world_of, members_of, is_member, steps_of};
+
+    /// The core of a script before its first turn. The Err is want of memory.
+    pub fn begin(alloc: Global, script: &Script) -> Result<Core, NoMemory>
+        ensures world { IfOk result (λ core. world_of core ≡ opening (calls_in script.now.commands)) }
+        ensures members { IfOk result (λ core. members_of core ≡ members_in script.now.commands) }
+        ensures steps { IfOk result (λ core. steps_of core ≡ 0) }
+    {
+        let clients = states_of(alloc, script.commands.as_slice())?;
+        Ok(Core {
+            alloc,
+            places: Places::new(alloc)?,
+            clients,
+            order: Vec::new(alloc),
+        })
+    }
 
     /// Makes the actor's next step. Idle comes exactly where the actor has ended, Full only where the log of its next
     /// place has 1,048,576 entries. After these and after want of memory the core is as before.
@@ -43,5 +66,26 @@ impl Core {
             &mut self.order,
             client,
         )
+    }
+
+    /// Ends the run: its entries in order, the places, and the calls of the clients. The Err is want of memory alone,
+    /// and hands the core back.
+    pub fn finish(mut self) -> Result<Run, Core>
+        ensures run { IfOk result (λ run. IsRunOf (members_of self) (world_of self) run) }
+        ensures back { IfErr result (λ core. world_of core ≡ world_of self) }
+        ensures members { IfErr result (λ core. members_of core ≡ members_of self) }
+        ensures steps { IfErr result (λ core. steps_of core ≡ steps_of self) }
+    {
+        let Ok(calls) = calls_of_all(self.alloc, &mut self.clients) else {
+            return Err(self);
+        };
+        let Ok(entries) = entries_of(self.alloc, &self.places, self.order.as_slice()) else {
+            return Err(self);
+        };
+        Ok(Run {
+            entries,
+            places: self.places,
+            calls,
+        })
     }
 }

@@ -15,7 +15,7 @@ use Rattle.cfs_steps.specs.declared.contents.DirRec.{DirRec}
 use Rattle.cfs_steps.specs.declared.contents.FileRec.{FileRec}
 use Rattle.cfs_rules.specs.Places.{Shard, Store, names_of}
 use Rattle.cfs_rules.specs.Trees.{tree, directory_of, facts_of, is_named, is_settled, is_counted}
-use Rattle.cfs_view.specs.Collected.{with_each}
+use Rattle.cfs_view.specs.Collected.{with_each, with_value}
 use Rattle.cfs_view.specs.Shown.{shown_dir, shown_file}
 use Rattle.cfs_view.proofs.Collected.{given, get-collected}
 
@@ -61,16 +61,12 @@ pub dirs-step : (s : Shard) (n m start : Namespace) (left rest : List (ℕ × Di
     → ◌≡◌ {A = Namespace} (record { dirs = with_each (shown_dir s) m.dirs rest; files = m.files }) start
 dirs-step s n m start left rest dir r d before step is set = rw (set, is) (rw step at before)
 
-module _ (s : Shard) (n start : Namespace) (left rest : List (ℕ × FileRec)) (file : ℕ) (r : FileRec)
-    (before : ◌≡◌ {A = Namespace} (record { dirs = n.dirs; files = with_each (shown_file s) n.files left }) start) (step : left ≡ (file, r) ∷ rest) where
-  -- one more file that counts
-  pub files-counted : (m : Namespace) → (is_none r.owner || is_named s file) ≡ true → m ≡ record { dirs = n.dirs; files = insert n.files file (facts_of r) }
-      → ◌≡◌ {A = Namespace} (record { dirs = m.dirs; files = with_each (shown_file s) m.files rest }) start
-  files-counted m counts set = rw set (rw (step, counts) at before)
-
-  -- a file that doesn't count
-  pub files-left : (is_none r.owner || is_named s file) ≡ false → ◌≡◌ {A = Namespace} (record { dirs = n.dirs; files = with_each (shown_file s) n.files rest }) start
-  files-left counts = rw (step, counts) at before
+-- one more file
+pub files-step : (s : Shard) (n m start : Namespace) (left rest : List (ℕ × FileRec)) (file : ℕ) (r : FileRec)
+    → ◌≡◌ {A = Namespace} (record { dirs = n.dirs; files = with_each (shown_file s) n.files left }) start
+    → left ≡ (file, r) ∷ rest → m ≡ record { dirs = n.dirs; files = with_value n.files file (shown_file s file r) }
+    → ◌≡◌ {A = Namespace} (record { dirs = m.dirs; files = with_each (shown_file s) m.files rest }) start
+files-step s n m start left rest file r before step set = rw set (rw step at before)
 
 -- the directories first, and then the files
 pub tree-shown : (s : Shard) (store : Store) (n m k : Namespace) → n ≡ record { dirs = empty; files = empty } → m ≡ record { dirs = with_each (shown_dir s) n.dirs (entries s.recs); files = n.files }

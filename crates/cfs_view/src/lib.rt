@@ -8,3 +8,6 @@ mod tree;
 pub use counts::{Tallied, tally};
 pub use places::Places;
 pub use tree::tree_of;
+
+#[cfg(test)]
+mod tests;

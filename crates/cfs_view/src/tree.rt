@@ -4,14 +4,14 @@ ghost use Rattle.std.specs.FinMap as map;
 ghost use Rattle.cfs_rules.specs.Trees.{tree, directory_of, is_named};
 ghost use Rattle.cfs_shard.specs.Shards as shards;
 ghost use Rattle.cfs_store.specs.Stores as stores;
-ghost use Rattle.cfs_view.specs.Collected.{with_each};
+ghost use Rattle.cfs_view.specs.Collected.{with_each, with_value};
 ghost use Rattle.cfs_view.specs.Views.{held};
 ghost use Rattle.cfs_view.specs.Shown.{shown_dir, shown_file};
 
 use crate::places::Places;
 use cfs_ids::{Client, DirId, FileId, NoMemory};
 use cfs_shard::{DirRec, Shard};
-use cfs_store::Store;
+use cfs_store::{FileRec, Store};
 use cfs_tree::{Directory, Namespace};
 use std::alloc::Global;
 
@@ -47,15 +47,28 @@ fn is_counted(shard: &Shard, file: FileId, owner: Option<Client>) -> bool
     owner.is_none() || shard.names_file(file)
 }
 
+// Adds the file if it counts.
+fn add_file(
+    namespace: &mut Namespace,
+    shard: &Shard,
+    file: FileId,
+    rec: &FileRec,
+) -> Result<(), NoMemory>
+    ensures { OnOk result (namespace.new ≡ record { dirs = namespace.old.dirs; files = with_value namespace.old.files file.0 (shown_file (shards.contents_of shard.now) file.0 rec.now) }) }
+{
+    if is_counted(shard, file, rec.owner) {
+        namespace.add_file(file, rec.size, rec.time)
+    } else {
+        Ok(())
+    }
+}
+
 // Adds the files that count.
 fn add_files(namespace: &mut Namespace, shard: &Shard, store: &Store) -> Result<(), NoMemory>
     ensures { OnOk result (namespace.new ≡ record { dirs = namespace.old.dirs; files = with_each (shown_file (shards.contents_of shard.now)) namespace.old.files (map.entries (stores.contents_of store.now)) }) }
 {
     for (file, rec) in store.files() {
-        let file = FileId(*file);
-        if is_counted(shard, file, rec.owner) {
-            namespace.add_file(file, rec.size, rec.time)?;
-        }
+        add_file(namespace, shard, FileId(*file), rec)?;
     }
     Ok(())
 }

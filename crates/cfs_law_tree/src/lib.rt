@@ -1,0 +1,6 @@
+//! Lists of turns, and what holds of the places at every step of them.
+#![tactic(auto)]
+
+mod drive;
+
+pub use drive::{Driven, drive};
