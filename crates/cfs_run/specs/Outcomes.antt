@@ -6,11 +6,11 @@ use Rattle.std.specs.Io.KnownBytes.{Appends}
 use Rattle.cfs_io.specs.Output.{AppendsFront}
 use Rattle.cfs_script.specs.declared.script.Script.{Script}
 use Rattle.cfs_script.specs.Outcomes.{HasRead}
-use Rattle.cfs_run.specs.declared.printed.Printed.{Printed}
+use Rattle.cfs_print.specs.declared.printed.Printed.{Printed}
 use Rattle.cfs_run.specs.declared.status.Status.{Status}
 use Rattle.cfs_run.specs.declared.status.Status.TheVariants as status
 use Rattle.cfs_run.specs.Runs.{IsRunOf}
-use Rattle.cfs_run.specs.Texts.{text}
+use Rattle.cfs_print.specs.Texts.{text}
 
 -- the exit status
 abbrev pub code_of : Status → ℕ

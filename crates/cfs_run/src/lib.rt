@@ -3,7 +3,6 @@
 
 mod middle;
 mod print;
-mod printed;
 mod status;
 mod sure;
 #[cfg(test)]

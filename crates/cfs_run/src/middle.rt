@@ -3,8 +3,8 @@ ghost use Rattle.std.specs.Prelude.{◌≡◌, ◌≤◌, Err, IfOk, length};
 ghost use Rattle.cfs_script.specs.Outcomes.{IsInForm};
 ghost use Rattle.cfs_run.specs.Runs.{IsRunOf};
 
-use crate::printed::Printed;
 use cfs_ids::PlaceNo;
+use cfs_print::Printed;
 use cfs_script::Script;
 use std::alloc::Global;
 

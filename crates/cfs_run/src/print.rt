@@ -5,9 +5,9 @@ ghost use Rattle.cfs_script.specs.Outcomes.{IsInForm};
 ghost use Rattle.cfs_run.specs.Outcomes.{Prints, PrintsFront};
 
 use crate::middle::{RunFault, printed};
-use crate::printed::write_run;
 use cfs_ids::PlaceNo;
 use cfs_io::{Failed, Sink};
+use cfs_print::{NamedFiles, write_run};
 use cfs_script::Script;
 use std::alloc::Global;
 
@@ -36,7 +36,10 @@ pub fn print<K: Sink>(alloc: Global, script: &Script, sink: &mut K) -> Result<()
         Err(RunFault::LogFull(place)) => return Err(PrintFault::LogFull(place)),
         Err(RunFault::NoMemory) => return Err(PrintFault::NoMemory),
     };
-    match write_run(sink, &printed) {
+    let Ok(named) = NamedFiles::of(alloc, &printed.tree) else {
+        return Err(PrintFault::NoMemory);
+    };
+    match write_run(&printed, &named, sink) {
         Ok(()) => Ok(()),
         Err(Failed) => Err(PrintFault::Write),
     }

@@ -25,6 +25,20 @@ impl Namespace {
         self.dirs.iter()
     }
 
+    /// The directory of the number. None comes exactly where it isn't there.
+    pub fn directory(&self, dir: DirId) -> Option<&Directory>
+        ensures { option_copied result ≡ map.get self.now.dirs dir.0 }
+    {
+        self.dirs.get(dir.0)
+    }
+
+    /// The file of the number. None comes exactly where it isn't there.
+    pub fn file(&self, file: FileId) -> Option<&FileFacts>
+        ensures { option_copied result ≡ map.get self.now.files file.0 }
+    {
+        self.files.get(file.0)
+    }
+
     /// The files, by rising numbers.
     pub fn files(&self) -> Iter<'_, u64, FileFacts>
         ensures rest { result ≡ map.entries self.now.files }

@@ -1,0 +1,16 @@
+use Rattle.std.proofs.Common.{arith}
+use Rattle.cfs_print.specs.Trees.{row_line, rows_of}
+use Rattle.cfs_print.proofs.Walked.{WrittenUpTo-step, WrittenUpTo-front}
+use Rattle.cfs_print.proofs.tree.put_rows.Goals as goal
+
+-- one more part
+pub loop-name-preserved : goal.loop-name-preserved
+loop-name-preserved g c = record {
+  written = WrittenUpTo-step (row_line c.args.tree.now c.args.dir) _ _ _ _ _ _ _ c.in-Some.ensures.steps c.loop-name.invariant.written c.in_ok-put_row.ensures.ok;
+  later = omega (arith, c.in_ok-put_row.ensures.cause.later);
+}
+
+-- the parts before this one and a front of it
+pub returns-in_err-put_row-clause-front : goal.returns-in_err-put_row-clause-front
+unfolding rows_of
+returns-in_err-put_row-clause-front g c = WrittenUpTo-front (row_line c.args.tree.now c.args.dir) _ _ _ _ _ _ _ c.in-Some.ensures.steps c.loop-name.invariant.written c.in_err-put_row.ensures.front

@@ -1,0 +1,24 @@
+-- The lines of commands.
+use Rattle.std.specs.Prelude.{ℕ, List, [], ◌∷◌, ◌++◌, length, codes, decimal, Option, Some, None}
+use Rattle.std.specs.List.{concat}
+use Rattle.cfs_ids.specs.Errnos.{text_of}
+use Rattle.cfs_ids.specs.declared.call.Reply.{Reply}
+use Rattle.cfs_ids.specs.declared.call.Reply.TheVariants.{Moved, Node, Rows, Refused}
+use Rattle.cfs_print.specs.Pieces.{node_text}
+use Rattle.cfs_print.specs.declared.commands.CommandReply.{CommandReply}
+
+-- a command's reply and the line's end; a command that isn't answered has -
+unfoldable pub reply_word : Option Reply → List ℕ
+reply_word None = codes "-\n"
+reply_word (Some Moved) = codes "OK\n"
+reply_word (Some (Node node)) = concat (codes "NODE " ∷ node_text (Some node) ∷ codes "\n" ∷ [])
+reply_word (Some (Rows rows)) = concat (codes "LIST " ∷ decimal (length rows) ∷ codes "\n" ∷ [])
+reply_word (Some (Refused errno)) = concat (text_of errno ∷ codes "\n" ∷ [])
+
+-- c CLIENT NUMBER
+unfoldable pub command_start : CommandReply → List ℕ
+command_start command = concat (codes "c " ∷ decimal command.client.0 ∷ codes " " ∷ decimal command.number ∷ codes " " ∷ [])
+
+-- c CLIENT NUMBER REPLY
+unfoldable pub command_line : CommandReply → List ℕ
+command_line command = command_start command ++ reply_word command.reply

@@ -1,0 +1,70 @@
+-- The lines of a history.
+use Rattle.std.specs.Prelude.{ℕ, List, [], ◌∷◌, ◌++◌, length, codes, decimal, flat_map, Option, Some, None}
+use Rattle.std.specs.List.{concat}
+use Rattle.cfs_ids.specs.Errnos.{text_of}
+use Rattle.cfs_ids.specs.declared.ids.Node.{Node}
+use Rattle.cfs_ids.specs.declared.errno.Errno.{Errno}
+use Rattle.cfs_ids.specs.declared.call.Call.{Call}
+use Rattle.cfs_ids.specs.declared.call.Call.TheVariants.{Lookup, List as ListCall, Create}
+use Rattle.cfs_ids.specs.declared.call.Reply.{Reply}
+use Rattle.cfs_ids.specs.declared.call.Reply.TheVariants as reply
+use Rattle.cfs_steps.specs.declared.line.Line.{Line}
+use Rattle.cfs_steps.specs.declared.line.Outcome.{Outcome}
+use Rattle.cfs_steps.specs.declared.line.Outcome.TheVariants as outcome
+use Rattle.cfs_steps.specs.declared.line.HistoryItem.{HistoryItem}
+use Rattle.cfs_steps.specs.declared.line.HistoryItem.TheVariants.{Line as LineItem}
+use Rattle.cfs_print.specs.Pieces.{node_text, position_text}
+
+-- the name of the call and its fields
+unfoldable pub call_text : Call → List ℕ
+call_text (Lookup dir name) = concat (codes "lookup " ∷ decimal dir.0 ∷ codes " " ∷ name ∷ [])
+call_text (ListCall dir) = concat (codes "list " ∷ decimal dir.0 ∷ [])
+call_text (Create dir name) = concat (codes "create " ∷ decimal dir.0 ∷ codes " " ∷ name ∷ [])
+
+-- r NAME NODE
+unfoldable pub row_line : List ℕ × Node → List ℕ
+row_line row = concat (codes "r " ∷ row.0 ∷ codes " " ∷ node_text (Some row.1) ∷ codes "\n" ∷ [])
+
+-- the end of a line with rows, and the lines of the rows
+unfoldable pub rows_head : ℕ → List ℕ
+rows_head count = concat (codes " = rows " ∷ decimal count ∷ codes "\n" ∷ [])
+
+unfoldable pub rows_text : List (List ℕ × Node) → List ℕ
+rows_text rows = rows_head (length rows) ++ flat_map row_line rows
+
+-- the ends of other lines
+unfoldable pub node_end : Node → List ℕ
+node_end node = concat (codes " = node " ∷ node_text (Some node) ∷ codes "\n" ∷ [])
+
+unfoldable pub errno_end : Errno → List ℕ
+errno_end errno = concat (codes " = " ∷ text_of errno ∷ codes "\n" ∷ [])
+
+unfoldable pub moved_end : (ts : ℕ) → Option Node → List ℕ
+moved_end ts made = concat (codes " = ok " ∷ decimal ts ∷ codes " " ∷ node_text made ∷ codes "\n" ∷ [])
+
+unfoldable pub unfinished_end : Option (ℕ × Option Node) → List ℕ
+unfinished_end None = codes " = unfinished - -\n"
+unfinished_end (Some move) = concat (codes " = unfinished " ∷ decimal move.0 ∷ codes " " ∷ node_text move.1 ∷ codes "\n" ∷ [])
+
+-- = OUTCOME
+abbrev pub reply_end : Reply → List ℕ
+reply_end reply.Moved = moved_end 0 None
+reply_end (reply.Node node) = node_end node
+reply_end (reply.Rows rows) = rows_text rows
+reply_end (reply.Refused errno) = errno_end errno
+
+abbrev pub outcome_end : Outcome → List ℕ
+outcome_end (outcome.Moved ts made) = moved_end ts made
+outcome_end (outcome.Reply reply) = reply_end reply
+outcome_end (outcome.Unfinished found) = unfinished_end found
+
+-- l CLIENT FIRST AT LAST
+unfoldable pub line_start : Line → List ℕ
+line_start line = concat (codes "l " ∷ decimal line.client.0 ∷ codes " " ∷ decimal line.first ∷ codes " " ∷ position_text line.at ∷ codes " " ∷ position_text line.last ∷ codes " " ∷ [])
+
+-- l CLIENT FIRST AT LAST CALL = OUTCOME
+unfoldable pub line_text : Line → List ℕ
+line_text line = line_start line ++ (call_text line.call ++ outcome_end line.outcome)
+
+unfoldable pub item_text : HistoryItem → List ℕ
+item_text (LineItem line) = line_text line

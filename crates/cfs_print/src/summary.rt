@@ -1,0 +1,102 @@
+//! The first lines and the last.
+ghost use Rattle.std.specs.Prelude.{OnOk};
+ghost use Rattle.std.specs.Io.KnownBytes.{Appends};
+ghost use Rattle.cfs_io.specs.Causes.{HasCause};
+ghost use Rattle.cfs_io.specs.Output.{AppendsFront};
+ghost use Rattle.cfs_print.specs.Summaries.{head_lines, run_counts, left_counts, summary_line};
+
+use crate::output::{Piece, put_all};
+use Piece::{Number, Text};
+use cfs_io::{Failed, Sink};
+
+/// The counts of a run: its steps, its calls, of these the unfinished and the busy ones, what was forgotten, and what
+/// it left behind: owed files, debts, marks and strays.
+#[derive(Clone, Copy, Debug, PartialEq, Eq)]
+pub struct Summary {
+    pub steps: u64,
+    pub calls: u64,
+    pub unfinished: u64,
+    pub busy: u64,
+    pub forgets: u64,
+    pub owed: u64,
+    pub debts: u64,
+    pub marks: u64,
+    pub strays: u64,
+}
+
+/// Writes the name of the format and the counts of places. After `Failed` a front of it was taken.
+#[tactic(auto, using(cfs_io::proofs::Written::writing), unfolding(crate::specs::Summaries::head_lines))]
+pub fn put_head<K: Sink>(sink: &mut K, shards: u32, stores: u32) -> Result<(), Failed>
+    ensures ok { OnOk result (Appends (K.taken sink.old) (K.taken sink.new) (head_lines shards stores)) }
+    ensures front { AppendsFront (K.taken sink.old) (K.taken sink.new) (head_lines shards stores) }
+    ensures cause { HasCause (K.faults sink.old) (K.faults sink.new) result }
+{
+    let shards = shards as u64;
+    let stores = stores as u64;
+    put_all(
+        sink,
+        &[
+            Text(b"cfs 1\nplaces "),
+            Number(shards),
+            Text(b" "),
+            Number(stores),
+            Text(b"\n"),
+        ],
+    )
+}
+
+#[tactic(auto, using(cfs_io::proofs::Written::writing), unfolding(crate::specs::Summaries::run_counts))]
+fn put_run_counts<K: Sink>(sink: &mut K, summary: &Summary) -> Result<(), Failed>
+    ensures ok { OnOk result (Appends (K.taken sink.old) (K.taken sink.new) (run_counts summary.now)) }
+    ensures front { AppendsFront (K.taken sink.old) (K.taken sink.new) (run_counts summary.now) }
+    ensures cause { HasCause (K.faults sink.old) (K.faults sink.new) result }
+{
+    put_all(
+        sink,
+        &[
+            Text(b"s steps="),
+            Number(summary.steps),
+            Text(b" calls="),
+            Number(summary.calls),
+            Text(b" unfinished="),
+            Number(summary.unfinished),
+            Text(b" busy="),
+            Number(summary.busy),
+        ],
+    )
+}
+
+#[tactic(auto, using(cfs_io::proofs::Written::writing), unfolding(crate::specs::Summaries::left_counts))]
+fn put_left_counts<K: Sink>(sink: &mut K, summary: &Summary) -> Result<(), Failed>
+    ensures ok { OnOk result (Appends (K.taken sink.old) (K.taken sink.new) (left_counts summary.now)) }
+    ensures front { AppendsFront (K.taken sink.old) (K.taken sink.new) (left_counts summary.now) }
+    ensures cause { HasCause (K.faults sink.old) (K.faults sink.new) result }
+{
+    put_all(
+        sink,
+        &[
+            Text(b" forgets="),
+            Number(summary.forgets),
+            Text(b" owed="),
+            Number(summary.owed),
+            Text(b" debts="),
+            Number(summary.debts),
+            Text(b" marks="),
+            Number(summary.marks),
+            Text(b" strays="),
+            Number(summary.strays),
+            Text(b"\n"),
+        ],
+    )
+}
+
+/// Writes the last line. After `Failed` a front of it was taken.
+#[tactic(auto, using(cfs_io::proofs::Written::writing), unfolding(crate::specs::Summaries::summary_line))]
+pub fn put_summary<K: Sink>(sink: &mut K, summary: &Summary) -> Result<(), Failed>
+    ensures ok { OnOk result (Appends (K.taken sink.old) (K.taken sink.new) (summary_line summary.now)) }
+    ensures front { AppendsFront (K.taken sink.old) (K.taken sink.new) (summary_line summary.now) }
+    ensures cause { HasCause (K.faults sink.old) (K.faults sink.new) result }
+{
+    put_run_counts(sink, summary)?;
+    put_left_counts(sink, summary)
+}
