@@ -1,0 +1,14 @@
+//! The commands, from the bytes in to the bytes out.
+#![tactic(auto)]
+
+mod middle;
+mod print;
+mod status;
+mod sure;
+#[cfg(test)]
+mod tests;
+mod top;
+
+pub use status::Status;
+pub use sure::replay_bytes;
+pub use top::{cfs_words, replay};

@@ -1,0 +1,41 @@
+//! How a command ended.
+ghost use Rattle.std.specs.Prelude.{◌≡◌};
+ghost use Rattle.cfs_run.specs.Outcomes.{code_of};
+
+use cfs_ids::PlaceNo;
+
+/// How a command ended.
+#[derive(Clone, Copy, Debug, PartialEq, Eq)]
+pub enum Status {
+    /// All was written.
+    Done,
+    /// The index of the first word that is not expected, counted from 0.
+    Usage { word: usize },
+    /// The first line that breaks the script's form, counted from 1.
+    Script { line: u64 },
+    /// The source failed.
+    ReadFault,
+    /// The sink failed, after it had taken a front of the text.
+    WriteFault,
+    /// No memory was left. Nothing was written.
+    NoMemory,
+    /// The log of this place has no room for the next step. Nothing was written.
+    LogFull { place: PlaceNo },
+}
+
+impl Status {
+    /// The exit status.
+    pub fn code(&self) -> u8
+        ensures { result ≡ code_of self.now }
+    {
+        match self {
+            Status::Done => 0,
+            Status::Usage { .. } => 2,
+            Status::Script { .. } => 3,
+            Status::ReadFault => 4,
+            Status::WriteFault => 5,
+            Status::NoMemory => 6,
+            Status::LogFull { .. } => 7,
+        }
+    }
+}

@@ -1,0 +1,111 @@
+//! The top calls.
+ghost use Rattle.std.specs.Prelude.{◌≡◌, ◌≢◌, ◌↔◌, ℕ, List, map, string_bytes, Some, None, IsSome};
+ghost use Rattle.cfs_ids.specs.declared.ids.PlaceNo.{PlaceNo};
+ghost use Rattle.cfs_io.specs.Causes.{Rose};
+ghost use Rattle.cfs_script.specs.Outcomes.{HasRefused};
+ghost use Rattle.cfs_script.specs.Scripts.{script_of};
+ghost use Rattle.cfs_run.specs.Outcomes.{Replayed, CutOff, ComesBeforeWriting, Answers, usage_of};
+
+use crate::print::{PrintFault, print};
+use crate::status::Status;
+use cfs_io::{Sink, Source};
+use cfs_script::{Fault, ScriptRefusal, read_script};
+use std::alloc::Global;
+
+/// Reads a script, makes its turns, and writes what came of them.
+pub fn replay<S: Source, K: Sink>(alloc: Global, source: &mut S, sink: &mut K) -> Status
+    // What was read is a script, and what was taken is the text of its run.
+    ensures done { result ≡ Status.Done → Replayed (S.left source.old) (S.left source.new) (K.taken sink.old) (K.taken sink.new) }
+
+    // The first line that breaks the form.
+    ensures script { (line : ℕ) → result ≡ Status.Script line → HasRefused (S.left source.old) (S.left source.new) line }
+
+    // A fault has its cause, and what was taken is a front of the text.
+    ensures read_fault { result ≡ Status.ReadFault → Rose (S.faults source.old) (S.faults source.new) }
+    ensures write_fault { result ≡ Status.WriteFault → Rose (K.faults sink.old) (K.faults sink.new) }
+    ensures cut_off { result ≡ Status.WriteFault → CutOff (S.left source.old) (S.left source.new) (K.taken sink.old) (K.taken sink.new) }
+    ensures untouched { ComesBeforeWriting result → K.taken sink.new ≡ K.taken sink.old }
+
+    // A log has more room than a script has turns.
+    ensures not_full { (place : PlaceNo) → result ≢ Status.LogFull place }
+
+    // Where the source tells what it has left, no other status comes but for faults and want of memory.
+    ensures told { (left : List ℕ) → S.left source.old ≡ Some left → Answers result (script_of left) }
+    ensures no_usage { (word : ℕ) → result ≢ Status.Usage word }
+{
+    let script = match read_script(alloc, source) {
+        Ok(script) => script,
+        Err(ScriptRefusal::ReadFault) => return Status::ReadFault,
+        Err(
+            ScriptRefusal::Bad {
+                line,
+                fault: Fault::NotBuilt,
+            },
+        ) => return Status::Script { line },
+        Err(ScriptRefusal::NoMemory) => return Status::NoMemory,
+    };
+    match print(alloc, &script, sink) {
+        Ok(()) => Status::Done,
+        Err(PrintFault::LogFull(place)) => Status::LogFull { place },
+        Err(PrintFault::NoMemory) => Status::NoMemory,
+        Err(PrintFault::Write) => Status::WriteFault,
+    }
+}
+
+#[tactic(auto, unfolding(crate::specs::Outcomes::usage_of))]
+fn usage(words: &[String]) -> Option<usize>
+    ensures { result ≡ usage_of (map string_bytes words.now) }
+{
+    match words {
+        [] => Some(0),
+        [word] => {
+            if word.as_str() == "replay" {
+                None
+            } else {
+                Some(0)
+            }
+        }
+        [word, ..] => {
+            if word.as_str() == "replay" {
+                Some(1)
+            } else {
+                Some(0)
+            }
+        }
+    }
+}
+
+/// All that the program does.
+pub fn cfs_words<S: Source, K: Sink>(
+    alloc: Global,
+    words: &[String],
+    source: &mut S,
+    sink: &mut K,
+) -> Status
+    // The index of the first word that isn't expected. Then nothing is read or written.
+    ensures usage { (word : ℕ) → (result ≡ Status.Usage word) ↔ (usage_of (map string_bytes words.now) ≡ Some word) }
+    ensures not_read { IsSome (usage_of (map string_bytes words.now)) → source.new ≡ source.old }
+
+    // What was read is a script, and what was taken is the text of its run.
+    ensures done { result ≡ Status.Done → Replayed (S.left source.old) (S.left source.new) (K.taken sink.old) (K.taken sink.new) }
+
+    // The first line that breaks the form.
+    ensures script { (line : ℕ) → result ≡ Status.Script line → HasRefused (S.left source.old) (S.left source.new) line }
+
+    // A fault has its cause, and what was taken is a front of the text.
+    ensures read_fault { result ≡ Status.ReadFault → Rose (S.faults source.old) (S.faults source.new) }
+    ensures write_fault { result ≡ Status.WriteFault → Rose (K.faults sink.old) (K.faults sink.new) }
+    ensures cut_off { result ≡ Status.WriteFault → CutOff (S.left source.old) (S.left source.new) (K.taken sink.old) (K.taken sink.new) }
+    ensures untouched { ComesBeforeWriting result → K.taken sink.new ≡ K.taken sink.old }
+
+    // A log has more room than a script has turns.
+    ensures not_full { (place : PlaceNo) → result ≢ Status.LogFull place }
+
+    // Where the source tells what it has left, no other status comes but for faults and want of memory.
+    ensures told { (left : List ℕ) → S.left source.old ≡ Some left → usage_of (map string_bytes words.now) ≡ None → Answers result (script_of left) }
+{
+    match usage(words) {
+        Some(word) => Status::Usage { word },
+        None => replay(alloc, source, sink),
+    }
+}
