@@ -9,7 +9,7 @@ use Rattle.cfs_script.specs.Outcomes.{HasRead}
 use Rattle.cfs_print.specs.declared.printed.Printed.{Printed}
 use Rattle.cfs_run.specs.declared.status.Status.{Status}
 use Rattle.cfs_run.specs.declared.status.Status.TheVariants as status
-use Rattle.cfs_run.specs.Runs.{IsRunOf}
+use Rattle.cfs_run.specs.Runs.{IsReplayOf}
 use Rattle.cfs_print.specs.Texts.{text}
 
 -- the exit status
@@ -25,13 +25,13 @@ code_of (status.LogFull place) = 7
 -- The text of the script's run was taken, all of it.
 pub record Prints (script : Script) (old new : Option (List ℕ)) : Type 0 where
   pub printed : Printed
-  pub run : IsRunOf script printed
+  pub run : IsReplayOf script printed
   pub taken : Appends old new (text printed)
 
 -- A front of the text of the script's run was taken.
 pub record PrintsFront (script : Script) (old new : Option (List ℕ)) : Type 0 where
   pub printed : Printed
-  pub run : IsRunOf script printed
+  pub run : IsReplayOf script printed
   pub taken : AppendsFront old new (text printed)
 
 -- The bytes read were those of a script, to the last of them, and the text of its run was taken.

@@ -1,7 +1,37 @@
 -- What a script's run prints.
+use Rattle.std.specs.Prelude.{◌≡◌, ℕ, List, length, map}
 use Rattle.cfs_script.specs.declared.script.Script.{Script}
 use Rattle.cfs_print.specs.declared.printed.Printed.{Printed}
+use Rattle.cfs_rules.specs.Facts.{MovesMatch}
+use Rattle.cfs_rules.specs.Histories.{world_history}
+use Rattle.cfs_rules.specs.Legal.{IsLegal, final}
+use Rattle.cfs_rules.specs.Trees.{tree, owed_in, strays_in}
+use Rattle.cfs_rules.specs.Worlds.{World, calls_of, client_of, opening, run_of}
+use Rattle.cfs_core.specs.Clients.{number_in}
+use Rattle.cfs_core.specs.Opening.{calls_in, members_in}
+use Rattle.cfs_run.specs.Replies.{replies_of}
+
+-- the world after the turns of the script
+abbrev pub world_after : Script → World
+world_after script = run_of (map number_in script.turns) (opening (calls_in script.commands))
+
+-- What is printed of the world after the turns, for these clients. Its history is legal, and the printed tree is the
+-- namespace that it ends in.
+pub record IsPrintedOf (members : List ℕ) (w : World) (printed : Printed) : Type 0 where
+  pub legal : IsLegal printed.history
+  pub last : final printed.history ≡ printed.tree
+  pub moves : MovesMatch w.run printed.history
+  pub history : printed.history ≡ world_history members w
+  pub tree : printed.tree ≡ tree w.shard w.store
+  pub replies : printed.replies ≡ replies_of (map (λ c. calls_of (client_of c) (w.clients c)) members)
+  pub steps : printed.steps ≡ length w.run
+  pub owed : printed.tally.owed ≡ owed_in w.store
+  pub debts : printed.tally.debts ≡ 0
+  pub marks : printed.tally.marks ≡ 0
+  pub strays : printed.tally.strays ≡ strays_in w.shard w.store w.roster
+  pub shards : printed.shards ≡ 1
+  pub stores : printed.stores ≡ 1
 
 -- this is what the turns of the script come to
-unfoldable pub IsRunOf : Script → Printed → Type 0
-IsRunOf script printed = Unit {0}
+abbrev pub IsReplayOf : Script → Printed → Type 0
+IsReplayOf script printed = IsPrintedOf (members_in script.commands) (world_after script) printed

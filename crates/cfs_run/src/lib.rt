@@ -3,6 +3,7 @@
 
 mod middle;
 mod print;
+mod replies;
 mod status;
 mod sure;
 #[cfg(test)]

@@ -1,5 +1,6 @@
 //! From a script to the text of its run.
-ghost use Rattle.std.specs.Prelude.{◌≡◌, ◌≢◌, ◌≤◌, Err, OnOk, IfErr, length};
+ghost use Rattle.std.specs.Prelude.{◌≡◌, ◌≢◌, Err, OnOk, IfErr};
+ghost use Rattle.cfs_ids.specs.declared.ids.PlaceNo.{PlaceNo};
 ghost use Rattle.cfs_io.specs.Causes.{Rose};
 ghost use Rattle.cfs_script.specs.Outcomes.{IsInForm};
 ghost use Rattle.cfs_run.specs.Outcomes.{Prints, PrintsFront};
@@ -29,7 +30,7 @@ pub fn print<K: Sink>(alloc: Global, script: &Script, sink: &mut K) -> Result<()
     ensures write_fault { result ≡ Err PrintFault.Write → Rose (K.faults sink.old) (K.faults sink.new) }
     ensures cut_off { result ≡ Err PrintFault.Write → PrintsFront script.now (K.taken sink.old) (K.taken sink.new) }
     ensures untouched { IfErr result (λ fault. fault ≢ PrintFault.Write → K.taken sink.new ≡ K.taken sink.old) }
-    ensures full { (place : _) → result ≡ Err (PrintFault.LogFull place) → 1048576 ≤ length script.now.turns }
+    ensures not_full { (place : PlaceNo) → result ≢ Err (PrintFault.LogFull place) }
 {
     let printed = match printed(alloc, script) {
         Ok(printed) => printed,
