@@ -1,6 +1,6 @@
 -- A turn among all clients, by the state of the one that makes it.
-use Rattle.std.proofs.Common.{◌≡◌, ℕ, ◌+◌, ◌≤◌, List, Bool, true, false, sym, ap, ◌∙◌, subst, arith, set, get_or, length}
-use Rattle.std.specs.Prelude.{Option, Some, None, ◌==◌, position}
+use Rattle.std.proofs.Common.{◌≡◌, ℕ, List, false, sym, ap, ◌∙◌, subst, set, get_or}
+use Rattle.std.specs.Prelude.{Some, ◌==◌, position}
 use Rattle.cfs_ids.specs.declared.ids.Client.{Client}
 use Rattle.cfs_ids.specs.declared.ids.PlaceNo.{PlaceNo}
 use Rattle.cfs_rules.specs.Worlds.{Progress, client_of, set_client}

@@ -1,9 +1,8 @@
 -- A turn keeps the count of the steps and the bounds of the numbers.
-use Rattle.std.proofs.Common.{◌≡◌, ℕ, suc, ◌+◌, ◌*◌, ◌≤◌, ◌<◌, List, [], ◌∷◌, Bool, true, false, refl, sym, ap, ◌∙◌, subst, arith, length}
-use Rattle.std.specs.Prelude.{Option, Some, None, max, nat_lt, nat_le, ◌==◌, ◌||◌, if◌then◌else◌}
+use Rattle.std.proofs.Common.{◌≡◌, ℕ, ◌+◌, ◌≤◌, ◌<◌, List, ◌∷◌, Bool, true, false, refl, sym, ap, subst, arith, length}
+use Rattle.std.specs.Prelude.{Option, Some, None, nat_lt, nat_le, ◌==◌, if◌then◌else◌}
 use Rattle.std.proofs.lemmas.Bool.Decides.{nat_tests}
 use Rattle.cfs_ids.specs.declared.ids.PlaceNo.{PlaceNo}
-use Rattle.cfs_ids.specs.declared.ids.Actor.{Actor}
 use Rattle.cfs_ids.specs.declared.ids.Actor.TheVariants.{Client as ClientActor}
 use Rattle.cfs_steps.specs.declared.ask.Ask.{Ask}
 use Rattle.cfs_steps.specs.declared.entry.Entry.{Entry}
@@ -11,9 +10,9 @@ use Rattle.cfs_steps.specs.Asks.{place_of}
 use Rattle.cfs_steps.specs.Phases.{Phase, Asking, Inserting, Settling, TakingBack, Finished, heard}
 use Rattle.cfs_rules.specs.Places.{is_full}
 use Rattle.cfs_rules.specs.Worlds.{Progress, client_of, next_ask, set_client, with_phase, after_entry, hears}
-use Rattle.cfs_view.specs.Held.{Held, Step, serve_in, serve, full_in, full, log_full_in, log_full}
+use Rattle.cfs_view.specs.Held.{Held, serve_in, full_in, full, log_full_in, log_full}
 use Rattle.cfs_core.specs.Counted.{IsCounted}
-use Rattle.cfs_core.specs.Parts.{Part, after_step, turned, turn_part, full_asked, full_next}
+use Rattle.cfs_core.specs.Parts.{turned, turn_part, full_asked, full_next}
 
 with_phase-last : (p : Progress) (n : ℕ) (phase : Phase) → (with_phase p n phase).last ≡ n
 with_phase-last p n (Asking call) = refl

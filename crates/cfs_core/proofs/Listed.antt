@@ -1,5 +1,5 @@
 -- Each place answers what its table lists for what a client asks.
-use Rattle.std.proofs.Common.{◌≡◌, ℕ, ◌+◌, ◌%◌, ◌<◌, List, Bool, true, false, cond, refl, sym, ap, ◌∙◌, arith}
+use Rattle.std.proofs.Common.{◌≡◌, ℕ, ◌+◌, ◌%◌, List, Bool, true, false, refl, arith}
 use Rattle.std.specs.Prelude.{Option, Some, None, nat_lt, if◌then◌else◌, ◌==◌}
 use Rattle.std.specs.FinMap.{get}
 use Rattle.std.proofs.lemmas.Bool.Decides.{nat_tests}
@@ -9,12 +9,9 @@ use Rattle.cfs_ids.specs.declared.ids.DirId.{DirId}
 use Rattle.cfs_ids.specs.declared.ids.FileId.{FileId}
 use Rattle.cfs_ids.specs.declared.ids.Node.TheVariants.{File}
 use Rattle.cfs_ids.specs.declared.ids.Actor.{Actor}
-use Rattle.cfs_ids.specs.declared.ids.Actor.TheVariants.{Client as ClientActor}
-use Rattle.cfs_ids.specs.declared.call.Call.{Call}
 use Rattle.cfs_ids.specs.declared.call.Call.TheVariants.{Lookup, List as ListCall, Create}
 use Rattle.cfs_ids.specs.Maps.{row_key}
 use Rattle.cfs_steps.specs.declared.ask.Ask.{Ask}
-use Rattle.cfs_steps.specs.declared.ask.Ask.TheVariants.{Read, List as ListAsk, Insert, Put, Settle, TakeBack, End}
 use Rattle.cfs_steps.specs.declared.contents.Row.{Row}
 use Rattle.cfs_steps.specs.declared.contents.DirRec.{DirRec}
 use Rattle.cfs_steps.specs.declared.contents.FileRec.{FileRec}
@@ -22,7 +19,7 @@ use Rattle.cfs_steps.specs.Phases.{Phase, Asking, Inserting, Settling, TakingBac
 use Rattle.cfs_rules.specs.Places.{Shard, Store, read_row, list_rows, inserted, settled, settle_owner, taken_back, take_owned}
 use Rattle.cfs_rules.specs.Worlds.{Progress, next_ask, asked_next}
 use Rattle.cfs_actor.specs.States.{answers_now, is_going_now}
-use Rattle.cfs_view.specs.Held.{Held, serve, serve_in}
+use Rattle.cfs_view.specs.Held.{Held, serve}
 
 -- the shard of a directory, and the store of a file
 in_shard : (n : ℕ) → nat_lt (n % 64) 64 ≡ true

@@ -1,9 +1,8 @@
 -- The core of a script before its first turn.
-use Rattle.std.proofs.Common.{◌≡◌, ℕ, ◌≤◌, List, [], refl, sym, ap, ◌∙◌, arith, subst}
+use Rattle.std.proofs.Common.{◌≡◌, ℕ, List, [], refl, sym, arith, subst}
 use Rattle.cfs_ids.specs.declared.ids.Client.{Client}
-use Rattle.cfs_ids.specs.declared.ids.PlaceNo.{PlaceNo}
 use Rattle.cfs_script.specs.declared.command.Command.{Command}
-use Rattle.cfs_rules.specs.Worlds.{Progress, World, opening, starts}
+use Rattle.cfs_rules.specs.Worlds.{Progress, opening}
 use Rattle.cfs_view.specs.Held.{Held, opening_held}
 use Rattle.cfs_actor.specs.declared.client_state.ClientState.{ClientState}
 use Rattle.cfs_core.specs.Clients.{progress_in}

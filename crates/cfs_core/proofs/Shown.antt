@@ -1,15 +1,14 @@
 -- States that show the same.
-use Rattle.std.proofs.Common.{◌≡◌, ℕ, suc, zero, ◌+◌, ◌<◌, List, [], ◌∷◌, ◌++◌, Bool, true, false, refl, sym, ap, ◌∙◌, arith, set, get_or, length, map, take}
+use Rattle.std.proofs.Common.{◌≡◌, ℕ, suc, zero, ◌+◌, ◌<◌, List, [], ◌∷◌, ◌++◌, Bool, true, false, refl, ap, ◌∙◌, arith, set, get_or, length, map, take}
 use Rattle.std.specs.Prelude.{if◌then◌else◌, ◌==◌}
 use Rattle.std.proofs.lemmas.List.{take_more, map-append}
 use Rattle.cfs_ids.specs.declared.ids.Client.{Client}
 use Rattle.cfs_script.specs.declared.command.Command.{Command}
 use Rattle.cfs_script.specs.Calls.{call_of}
-use Rattle.cfs_steps.specs.declared.call_done.ClientCalls.{ClientCalls}
 use Rattle.cfs_rules.specs.Worlds.{Progress, starts, calls_of}
 use Rattle.cfs_actor.specs.declared.client_state.ClientState.{ClientState}
 use Rattle.cfs_actor.specs.Clients.{client_of, progress_of}
-use Rattle.cfs_core.specs.Clients.{progress_in, members_of, is_member}
+use Rattle.cfs_core.specs.Clients.{progress_in, members_of}
 use Rattle.cfs_core.specs.Ends.{calls_in}
 use Rattle.cfs_core.specs.Opening.{shown, started, calls_in as calls_of_lists, members_in, StartsAs}
 

@@ -1,9 +1,9 @@
 -- A client's new state in the place of its old one.
-use Rattle.std.proofs.Common.{◌≡◌, ◌≢◌, ℕ, suc, zero, ◌+◌, ◌<◌, ◌≤◌, List, [], ◌∷◌, Bool, true, false, cond, refl, sym, ap, ◌∙◌, subst, arith, set, get_or, length, map, zero}
+use Rattle.std.proofs.Common.{◌≡◌, ℕ, suc, zero, ◌+◌, ◌<◌, ◌≤◌, List, [], ◌∷◌, Bool, true, false, cond, refl, ap, arith, set, get_or, length, zero}
 use Rattle.std.specs.Prelude.{if◌then◌else◌, ◌==◌, ◌||◌, Option, Some, None, position}
 use Rattle.std.specs.List.{position_or_len, list_any}
 use Rattle.std.proofs.lemmas.Bool.Decides.{nat_tests}
-use Rattle.cfs_rules.specs.Worlds.{Progress, set_client}
+use Rattle.cfs_rules.specs.Worlds.{set_client}
 use Rattle.cfs_actor.specs.declared.client_state.ClientState.{ClientState}
 use Rattle.cfs_actor.specs.Clients.{client_of, progress_of}
 use Rattle.cfs_core.specs.Clients.{progress_in, members_of, is_member}

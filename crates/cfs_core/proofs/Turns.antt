@@ -1,5 +1,5 @@
 -- A turn of one client on the places is a turn of the world.
-use Rattle.std.proofs.Common.{◌≡◌, ℕ, List, [], ◌∷◌, ◌++◌, Bool, true, false, refl, sym, ap, ◌∙◌, arith, set, get_or}
+use Rattle.std.proofs.Common.{◌≡◌, ℕ, List, Bool, true, false, refl, sym, ap, ◌∙◌, arith, set, get_or}
 use Rattle.std.specs.Prelude.{Option, Some, None, nat_lt, ◌==◌, if◌then◌else◌, position}
 use Rattle.std.proofs.lemmas.Bool.Decides.{nat_tests}
 use Rattle.cfs_ids.specs.declared.ids.Client.{Client}
@@ -11,10 +11,10 @@ use Rattle.cfs_ids.specs.declared.ids.PlaceNo.{PlaceNo}
 use Rattle.cfs_ids.specs.declared.ids.Actor.TheVariants.{Client as ClientActor}
 use Rattle.cfs_steps.specs.declared.ask.Ask.{Ask}
 use Rattle.cfs_steps.specs.Asks.{place_of}
-use Rattle.cfs_rules.specs.Worlds.{World, Progress, client_of, next_ask, set_client, step_in, turn_asking, turn_of, turn}
-use Rattle.cfs_view.specs.Held.{Held, serve_in, serve}
+use Rattle.cfs_rules.specs.Worlds.{Progress, client_of, next_ask, set_client, step_in, turn_asking, turn}
+use Rattle.cfs_view.specs.Held.{Held, serve_in}
 use Rattle.cfs_core.specs.Parts.{Part, after_step, turned, turn_part}
-use Rattle.cfs_core.specs.Weave.{taken, taken_in, left, left_in, woven, logs_of, world_from}
+use Rattle.cfs_core.specs.Weave.{world_from}
 
 -- the run of the logs with one more step is the run with that step
 step-world : (a b : Bool) (order : List PlaceNo) (h : Held) (clients : ℕ → Progress) (c : ℕ) (p : Progress) (ask : Ask) → nat_lt (place_of ask).0 64 ≡ a → nat_lt (place_of ask).0 128 ≡ b

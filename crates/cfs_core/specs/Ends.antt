@@ -1,5 +1,5 @@
 -- The end of a run.
-use Rattle.std.specs.Prelude.{◌≡◌, ℕ, ◌≤◌, List, [], ◌∷◌, length, map, reverse, take, Option, Some, None}
+use Rattle.std.specs.Prelude.{◌≤◌, List, [], ◌∷◌, length, map, reverse, take, Option, Some, None}
 use Rattle.cfs_ids.specs.declared.ids.PlaceNo.{PlaceNo}
 use Rattle.cfs_steps.specs.declared.entry.Entry.{Entry}
 use Rattle.cfs_steps.specs.declared.call_done.ClientCalls.{ClientCalls}

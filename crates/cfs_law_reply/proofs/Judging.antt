@@ -1,13 +1,9 @@
 -- The history of a run that turns made of an opening.
-use Rattle.std.proofs.Common.{◌≡◌, ℕ, List, map, reverse, sym, ap, subst}
+use Rattle.std.proofs.Common.{ℕ, List, reverse, sym, subst}
 use Rattle.cfs_ids.specs.declared.call.Call.{Call}
-use Rattle.cfs_steps.specs.declared.line.HistoryItem.{HistoryItem}
-use Rattle.cfs_rules.specs.Facts.{MovesMatch}
 use Rattle.cfs_rules.specs.Histories.{history_of, world_history}
-use Rattle.cfs_rules.specs.Legal.{IsLegal, final}
 use Rattle.cfs_rules.specs.Members.{HasCallers, IsRising}
-use Rattle.cfs_rules.specs.Trees.{tree}
-use Rattle.cfs_rules.specs.Worlds.{World, opening, run_of}
+use Rattle.cfs_rules.specs.Worlds.{opening, run_of}
 use Rattle.cfs_laws.proofs.Histories.{history_legal, history_final, history_moves}
 use Rattle.cfs_core.specs.Finished.{IsRunOf}
 use Rattle.cfs_core.specs.declared.run.Run.{Run}

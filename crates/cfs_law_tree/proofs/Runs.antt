@@ -1,5 +1,5 @@
 -- Runs, turn by turn.
-use Rattle.std.proofs.Common.{◌≡◌, ℕ, suc, zero, ◌+◌, ◌<◌, List, [], ◌∷◌, ◌++◌, Bool, true, false, ◌==◌, refl, sym, ap, ◌∙◌, subst, arith, map, take, get_or, length}
+use Rattle.std.proofs.Common.{◌≡◌, ℕ, ◌+◌, ◌<◌, List, [], ◌∷◌, ◌++◌, Bool, true, false, ◌==◌, refl, sym, ap, ◌∙◌, subst, map, take, get_or, length}
 use Rattle.std.specs.Prelude.{IsTrue}
 use Rattle.std.specs.List.{list_any, list_all}
 use Rattle.std.proofs.lemmas.List.{take_more, map-append, take-map}
@@ -7,10 +7,9 @@ use Rattle.std.proofs.lemmas.List.Folds.{list_all_at}
 use Rattle.cfs_ids.specs.declared.ids.Actor.{Actor}
 use Rattle.cfs_ids.specs.declared.call.Call.{Call}
 use Rattle.cfs_rules.specs.Facts.{CountsHold, AttributesHold}
-use Rattle.cfs_rules.specs.Worlds.{World, Progress, turn, turn_of, turn_asking, asked_next, client_of as numbered, opening, run_of}
+use Rattle.cfs_rules.specs.Worlds.{World, turn, turn_asking, asked_next, client_of as numbered, opening, run_of}
 use Rattle.cfs_laws_places.proofs.Laws.{counts_of, attributes_of}
 use Rattle.cfs_actor.specs.declared.client_state.ClientState.{ClientState}
-use Rattle.cfs_actor.specs.Clients.{client_of}
 use Rattle.cfs_core.specs.Clients.{members_of, is_member, number_in}
 use Rattle.cfs_law_tree.specs.Drives.{StopsIn}
 

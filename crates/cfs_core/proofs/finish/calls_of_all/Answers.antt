@@ -1,10 +1,8 @@
-use Rattle.std.proofs.Common.{◌≡◌, ◌<◌, ◌≤◌, ◌+◌, ◌++◌, ◌∷◌, [], map, take, set, get_or, length, sym, ap, ◌∙◌, arith, List}
+use Rattle.std.proofs.Common.{◌≡◌, ◌<◌, ◌++◌, ◌∷◌, [], get_or, length, sym, ap, ◌∙◌, arith}
 use Rattle.cfs_actor.specs.declared.client_state.ClientState.{ClientState}
 use Rattle.cfs_actor.specs.Clients.{client_of, progress_of}
 use Rattle.cfs_ids.specs.declared.ids.Client.{Client}
-use Rattle.cfs_steps.specs.declared.call_done.ClientCalls.{ClientCalls}
 use Rattle.cfs_rules.specs.Worlds.{Progress, calls_of}
-use Rattle.cfs_core.specs.Opening.{shown}
 use Rattle.cfs_core.proofs.Shown.{shown-set, shown-at, shown-length, calls_in-more}
 use Rattle.cfs_core.proofs.finish.calls_of_all.Goals as goal
 

@@ -1,4 +1,4 @@
-use Rattle.std.proofs.Common.{◌≡◌, ◌+◌, ◌<◌, ◌≤◌, arith, ap, sym, ◌∙◌}
+use Rattle.std.proofs.Common.{arith, ◌∙◌}
 use Rattle.cfs_core.proofs.Ends.{first-of-left, rest-of-left}
 use Rattle.cfs_core.proofs.finish.take_newest.Goals as goal
 

@@ -1,4 +1,3 @@
-use Rattle.std.proofs.Common.{◌≡◌}
 use Rattle.cfs_ids.specs.declared.ids.Actor.TheVariants.{Client as ClientActor}
 use Rattle.cfs_view.specs.Views.{held}
 use Rattle.cfs_actor.specs.Clients.{client_of, progress_of}

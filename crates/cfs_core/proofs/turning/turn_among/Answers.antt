@@ -1,20 +1,19 @@
-use Rattle.std.proofs.Common.{◌≡◌, ◌≢◌, ◌+◌, ◌≤◌, ℕ, ◌∙◌, sym, ap, subst, Some, None, get_or, set, reverse, length, arith, refl, Ok, Err, Result, ◌==◌, List, ◌⊎◌, inl, inr}
-use Rattle.std.specs.List.{position}
+use Rattle.std.proofs.Common.{◌≡◌, ◌≢◌, ℕ, ◌∙◌, sym, ap, subst, reverse, refl, Ok, Err, Result, List, ◌⊎◌, inl, inr}
 use Rattle.std.proofs.lemmas.List.{length-reverse}
 use Rattle.cfs_ids.specs.declared.ids.PlaceNo.{PlaceNo}
 use Rattle.cfs_ids.specs.declared.ids.Client.{Client}
-use Rattle.cfs_rules.specs.Worlds.{Progress, set_client, next_ask}
+use Rattle.cfs_rules.specs.Worlds.{Progress, next_ask}
 use Rattle.cfs_actor.specs.declared.client_state.ClientState.{ClientState}
 use Rattle.cfs_actor.specs.Clients.{client_of, progress_of}
 use Rattle.cfs_view.specs.Held.{Held}
 use Rattle.cfs_view.specs.Views.{held}
-use Rattle.cfs_core.specs.Clients.{progress_in, members_of, is_member, world_in}
+use Rattle.cfs_core.specs.Clients.{progress_in}
 use Rattle.cfs_core.specs.Counted.{IsCounted}
 use Rattle.cfs_ids.specs.declared.memory.NoMemory.{NoMemory}
 use Rattle.cfs_core.specs.declared.turned.Turned.{Turned}
 use Rattle.cfs_core.specs.declared.turned.Turned.TheVariants.{Stepped, Idle, Full}
 use Rattle.cfs_core.specs.Weave.{world_from}
-use Rattle.cfs_core.proofs.States.{members_of-set, no-index, progress_in-at}
+use Rattle.cfs_core.proofs.States.{members_of-set, no-index}
 use Rattle.cfs_core.proofs.Turns.{stepped-world, same-clients}
 use Rattle.cfs_core.proofs.Among.{stepped-counted, was-progress, was-client}
 use Rattle.cfs_core.proofs.Counting.{full-log, many-steps}

@@ -1,4 +1,4 @@
-use Rattle.std.proofs.Common.{◌≡◌, ℕ, List, Result, Ok, Err, subst, sym, ◌∙◌, reverse}
+use Rattle.std.proofs.Common.{◌≡◌, ℕ, List, Result, Ok, Err, subst, sym, reverse}
 use Rattle.std.specs.Result.{IfOk}
 use Rattle.cfs_ids.specs.declared.call.Call.{Call}
 use Rattle.cfs_rules.specs.Histories.{history_of}

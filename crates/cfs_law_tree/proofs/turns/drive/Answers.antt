@@ -1,5 +1,4 @@
-use Rattle.std.proofs.Common.{◌≡◌, ◌≤◌, ◌+◌, ℕ, List, map, take, ap, sym, ◌∙◌, arith, get_or, ◌==◌, ◌<◌, length, Ok, inl, inr}
-use Rattle.std.specs.List.{list_any}
+use Rattle.std.proofs.Common.{◌≡◌, map, take, ap, sym, ◌∙◌, arith, get_or, ◌<◌, length, Ok, inl, inr}
 use Rattle.cfs_ids.specs.declared.ids.Actor.TheVariants.{Client as ClientTurn}
 use Rattle.cfs_rules.specs.Worlds.{World, turn}
 use Rattle.cfs_core.specs.Clients.{number_in}

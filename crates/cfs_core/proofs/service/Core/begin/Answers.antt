@@ -1,4 +1,4 @@
-use Rattle.std.proofs.Common.{◌≡◌, reverse, ap, ◌∙◌, subst, sym, List}
+use Rattle.std.proofs.Common.{reverse, ap, ◌∙◌, subst, sym, List}
 use Rattle.cfs_ids.specs.declared.ids.PlaceNo.{PlaceNo}
 use Rattle.cfs_view.specs.Views.{held}
 use Rattle.cfs_core.specs.Clients.{progress_in}

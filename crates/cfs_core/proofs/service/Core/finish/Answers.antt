@@ -1,7 +1,6 @@
-use Rattle.std.proofs.Common.{◌≡◌, ℕ, reverse, ap, ◌∙◌, subst, sym, refl, List}
+use Rattle.std.proofs.Common.{ℕ, reverse, ap, ◌∙◌, subst, sym, refl}
 use Rattle.cfs_rules.specs.Worlds.{Progress}
 use Rattle.cfs_view.specs.Views.{held}
-use Rattle.cfs_core.specs.Clients.{progress_in}
 use Rattle.cfs_core.specs.Counted.{IsCounted}
 use Rattle.cfs_core.specs.Weave.{world_from}
 use Rattle.cfs_core.proofs.Members.{calls-by-number}
