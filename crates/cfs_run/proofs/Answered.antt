@@ -25,5 +25,5 @@ all_answered-more c xs i number d before is lt =
     let count : number + 1 ≡ 1 + length (take i xs) = let l = length-take xs i lt in omega (arith, is, l) in
     append_assoc before (all_answered c 1 (take i xs)) (answered c (number + 1) (get_or xs i d) ∷ [])
     ∙ ap (λ (more : List CommandReply). before ++ more)
-        (ap (λ (k : ℕ). all_answered c 1 (take i xs) ++ answered c k (get_or xs i d) ∷ []) count
-        ∙ sym (ap (all_answered c 1) (take_more xs i d lt) ∙ at-end c 1 (take i xs) (get_or xs i d)))
+    (ap (λ (k : ℕ). all_answered c 1 (take i xs) ++ answered c k (get_or xs i d) ∷ []) count
+    ∙ sym (ap (all_answered c 1) (take_more xs i d lt) ∙ at-end c 1 (take i xs) (get_or xs i d)))

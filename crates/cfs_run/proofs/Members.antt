@@ -1,16 +1,14 @@
 -- The clients of a script that is in form.
-use Rattle.std.proofs.Common.{◌≡◌, ◌≢◌, ℕ, ◌<◌, List, [], ◌∷◌, Bool, true, false, ◌==◌, refl, sym, ap, ◌∙◌, arith, subst, map}
-use Rattle.std.specs.Prelude.{IsTrue, nat_lt, nat_le, ◌&&◌, ◌||◌, if◌then◌else◌}
+use Rattle.std.proofs.Common.{◌≡◌, ◌≢◌, ℕ, ◌<◌, List, [], ◌∷◌, Bool, true, false, ◌==◌, refl, arith, subst}
+use Rattle.std.specs.Prelude.{IsTrue, nat_lt, nat_le, ◌&&◌, ◌||◌}
 use Rattle.std.specs.List.{list_any, list_all}
 use Rattle.std.proofs.lemmas.Bool.Decides.{nat_tests}
 use Rattle.cfs_ids.specs.declared.ids.Actor.{Actor}
 use Rattle.cfs_ids.specs.declared.ids.Actor.TheVariants.{Client as ClientTurn}
 use Rattle.cfs_ids.specs.declared.ids.Client.{Client}
-use Rattle.cfs_ids.specs.declared.call.Call.{Call}
 use Rattle.cfs_rules.specs.Members.{HasCallers, IsBelowAll, IsRising}
 use Rattle.cfs_script.specs.declared.command.Command.{Command}
-use Rattle.cfs_script.specs.Calls.{call_of}
-use Rattle.cfs_script.specs.Lists.{rises_from, is_in}
+use Rattle.cfs_script.specs.Lists.{rises_from}
 use Rattle.cfs_script.specs.Outcomes as script
 use Rattle.cfs_core.specs.Opening.{calls_in, members_in}
 use Rattle.cfs_law_tree.specs.Drives.{is_turn_of}

@@ -1,14 +1,9 @@
 -- What is printed of a run.
-use Rattle.std.proofs.Common.{◌≡◌, ℕ, List, map, length, reverse, sym, ap, ◌∙◌, refl}
+use Rattle.std.proofs.Common.{◌≡◌, length, sym, ap, ◌∙◌}
 use Rattle.std.proofs.lemmas.List.{length-reverse}
-use Rattle.cfs_ids.specs.declared.ids.PlaceNo.{PlaceNo}
-use Rattle.cfs_steps.specs.declared.entry.Entry.{Entry}
-use Rattle.cfs_rules.specs.Places.{Shard, Store}
 use Rattle.cfs_rules.specs.Trees.{tree, owed_in, strays_in}
-use Rattle.cfs_rules.specs.Worlds.{World, calls_of, client_of, opening, run_of}
-use Rattle.cfs_core.specs.Clients.{number_in}
 use Rattle.cfs_core.specs.Finished.{IsRunOf}
-use Rattle.cfs_core.specs.Opening.{calls_in, members_in}
+use Rattle.cfs_core.specs.Opening.{members_in}
 use Rattle.cfs_core.specs.declared.run.Run.{Run}
 use Rattle.cfs_law_reply.specs.Judged.{IsJudged}
 use Rattle.cfs_print.specs.declared.printed.Printed.{Printed}
@@ -40,7 +35,8 @@ of-run script run p form of judged shards stores replies trees steps tally = rec
   marks = ap (λ (t : Tallied). t.marks) tally;
   strays = ap (λ (t : Tallied). t.strays) tally ∙ (λ j. strays_in (of.shard j) (of.store j) (of.roster j));
   shards = shards ∙ form.one_shard;
-  stores = stores ∙ form.one_store }
+  stores = stores ∙ form.one_store;
+}
   where
     printed_tree : p.tree ≡ tree (world_after script).shard (world_after script).store
     printed_tree = trees ∙ (λ j. tree (of.shard j) (of.store j))

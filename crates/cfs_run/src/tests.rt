@@ -45,36 +45,39 @@ fn a_command_that_ends_before_its_run(rt: HostRuntime) -> Result<(), Fail> {
 }
 
 const TWO_CREATES: &str = "places 1 1\nclient 1 create /x\nclient 2 create /x\nturns 1 2 2 2 1 1\n";
-const TWO_CREATES_TEXT: &str = "cfs 1\nplaces 1 1\nc 1 1 EEXIST\nc 2 1 OK\nl 2 1 2 3 create 0 x = ok 2 f128\nl 1 0 4 5 create 0 x = EEXIST\nt 0 / d0 children=1 links=2 time=2\nt 0 x f128 size=0 time=2\ns steps=6 calls=2 unfinished=0 busy=0 forgets=0 owed=0 debts=0 marks=0 strays=0\n";
 
-// The status of a replay of two creates, and the bytes that were taken. The sink takes seven bytes at a write, and
-// fails at the calls in `fails`.
-fn two_creates(rt: &HostRuntime, fails: &[u64]) -> Result<(Status, Vec<u8>), Fail> {
+const TWO_CREATES_TEXT: &str =
+    "cfs 1\nplaces 1 1\nc 1 1 EEXIST\nc 2 1 OK\nl 2 1 2 3 create 0 x = ok 2 f128\nl 1 0 4 5 create 0 x = EEXIST\nt 0 / d0 children=1 links=2 time=2\nt 0 x f128 size=0 time=2\ns steps=6 calls=2 unfinished=0 busy=0 forgets=0 owed=0 debts=0 marks=0 strays=0\n";
+
+// The status of a replay of two creates into the sink.
+fn two_creates(rt: &HostRuntime, sink: &mut MemSink) -> Result<Status, Fail> {
     let alloc = rt.alloc();
     let bytes = Vec::from_slice(alloc, TWO_CREATES.as_bytes())?;
     let mut source = MemSource::new(bytes, 10, Vec::new(alloc));
-    let fails = Vec::from_slice(alloc, fails)?;
-    let Ok(mut sink) = MemSink::new(alloc, 1000, 7, fails) else {
-        panic!(rt; "no memory");
-    };
-    let status = replay(alloc, &mut source, &mut sink);
-    let taken = Vec::from_slice(alloc, sink.bytes())?;
-    Ok((status, taken))
+    Ok(replay(alloc, &mut source, sink))
 }
 
 #[test]
-fn the_later_of_two_creates_wins(rt: HostRuntime) -> Result<(), Fail> {
-    let (status, taken) = two_creates(&rt, &[])?;
+fn the_create_that_inserts_first_wins(rt: HostRuntime) -> Result<(), Fail> {
+    let Ok(mut sink) = MemSink::new(rt.alloc(), 1000, 7, Vec::new(rt.alloc())) else {
+        panic!(rt; "no memory");
+    };
+    let status = two_creates(&rt, &mut sink)?;
     assert_eq!(rt; status, Status::Done);
-    assert_eq!(rt; taken.as_slice(), TWO_CREATES_TEXT.as_bytes());
+    assert_eq!(rt; sink.bytes(), TWO_CREATES_TEXT.as_bytes());
     Ok(())
 }
 
 #[test]
 fn a_write_that_fails_leaves_a_front(rt: HostRuntime) -> Result<(), Fail> {
-    let (status, taken) = two_creates(&rt, &[3])?;
+    let mut fails = Vec::new(rt.alloc());
+    fails.push(70)?;
+    let Ok(mut sink) = MemSink::new(rt.alloc(), 1000, 1, fails) else {
+        panic!(rt; "no memory");
+    };
+    let status = two_creates(&rt, &mut sink)?;
     assert_eq!(rt; status, Status::WriteFault);
     assert_eq!(rt; status.code(), 5);
-    assert_eq!(rt; taken.as_slice(), &TWO_CREATES_TEXT.as_bytes()[..taken.len()]);
+    assert_eq!(rt; sink.bytes(), &TWO_CREATES_TEXT.as_bytes()[..69]);
     Ok(())
 }

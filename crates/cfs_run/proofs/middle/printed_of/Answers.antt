@@ -1,4 +1,4 @@
-use Rattle.std.proofs.Common.{◌≡◌, refl, sym, ap, ◌∙◌, map}
+use Rattle.std.proofs.Common.{refl, map}
 use Rattle.cfs_core.specs.Clients.{number_in}
 use Rattle.cfs_core.specs.Opening.{calls_in, members_in}
 use Rattle.cfs_run.proofs.Members.{callers, rising}

@@ -1,10 +1,9 @@
-use Rattle.std.proofs.Common.{◌≡◌, ℕ, List, IsTrue, subst, sym, ap, ◌∙◌, map, Ok}
+use Rattle.std.proofs.Common.{ℕ, List, IsTrue, subst, sym, ap, ◌∙◌, map, Ok}
 use Rattle.std.specs.List.{list_all}
 use Rattle.cfs_rules.specs.Worlds.{World, run_of}
 use Rattle.cfs_core.specs.Clients.{number_in}
-use Rattle.cfs_core.specs.Cores.{members_of, world_of}
+use Rattle.cfs_core.specs.Cores.{members_of}
 use Rattle.cfs_core.specs.Finished.{IsRunOf}
-use Rattle.cfs_core.specs.Opening.{members_in}
 use Rattle.cfs_law_tree.specs.Drives.{is_turn_of}
 use Rattle.cfs_run.proofs.Members.{turns-of}
 use Rattle.cfs_run.specs.Runs.{world_after}
