@@ -3,6 +3,7 @@ ghost use Rattle.std.specs.Prelude.{◌≡◌};
 ghost use Rattle.cfs.specs.Faults.{fault_of};
 
 use cfs_run::Status;
+use cfs_script::Fault as ScriptFault;
 use thiserror::Error;
 
 /// Why the program does not end with status 0, in one line.
@@ -12,8 +13,8 @@ pub enum Fault {
     #[error("cfs: word {word} is not expected")]
     Usage { word: usize },
     /// This line of the script, counted from 1, is the first that breaks its form.
-    #[error("cfs: line {line}: NotBuilt")]
-    Script { line: u64 },
+    #[error("cfs: line {line}: {fault:?}")]
+    Script { line: u64, fault: ScriptFault },
     /// Reading standard input failed.
     #[error("cfs: reading failed")]
     Read,
@@ -34,9 +35,9 @@ impl Fault {
         ensures { result ≡ fault_of status }
     {
         match status {
-            Status::Done => None,
+            Status::Done | Status::No { .. } => None,
             Status::Usage { word } => Some(Fault::Usage { word }),
-            Status::Script { line } => Some(Fault::Script { line }),
+            Status::Script { line, fault } => Some(Fault::Script { line, fault }),
             Status::ReadFault => Some(Fault::Read),
             Status::WriteFault => Some(Fault::Write),
             Status::NoMemory => Some(Fault::NoMemory),

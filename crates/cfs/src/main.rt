@@ -4,7 +4,7 @@
 mod fault;
 
 use cfs_io::{StdSink, StdSource};
-use cfs_run::{Status, cfs_words};
+use cfs_run::{FreeGate, Status, cfs_words};
 use fault::Fault;
 use std::alloc::AllocError;
 use std::env::{Env, FillError};
@@ -40,7 +40,7 @@ fn main(rt: HostRuntime) -> ExitCode {
     let mut source = StdSource::new(rt.stdin());
     let mut sink = StdSink::new(rt.stdout());
     let status = match words(&rt) {
-        Ok(words) => cfs_words(rt.alloc(), &words, &mut source, &mut sink),
+        Ok(words) => cfs_words(&rt, rt.alloc(), &words, &mut source, &mut sink, &FreeGate),
         Err(_) => Status::NoMemory,
     };
     if let Some(fault) = Fault::of(status) {

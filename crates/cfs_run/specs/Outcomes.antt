@@ -15,8 +15,9 @@ use Rattle.cfs_print.specs.Texts.{text}
 -- the exit status
 abbrev pub code_of : Status → ℕ
 code_of status.Done = 0
+code_of (status.No line) = 1
 code_of (status.Usage word) = 2
-code_of (status.Script line) = 3
+code_of (status.Script line fault) = 3
 code_of status.ReadFault = 4
 code_of status.WriteFault = 5
 code_of status.NoMemory = 6
@@ -49,8 +50,9 @@ pub record CutOff (left_old left_new taken_old taken_new : Option (List ℕ)) : 
 -- a status that comes before the first byte is written
 abbrev pub ComesBeforeWriting : Status → Type 0
 ComesBeforeWriting status.Done = ⊥
+ComesBeforeWriting (status.No line) = Unit {0}
 ComesBeforeWriting (status.Usage word) = Unit {0}
-ComesBeforeWriting (status.Script line) = Unit {0}
+ComesBeforeWriting (status.Script line fault) = Unit {0}
 ComesBeforeWriting status.ReadFault = Unit {0}
 ComesBeforeWriting status.WriteFault = ⊥
 ComesBeforeWriting status.NoMemory = Unit {0}
@@ -60,8 +62,9 @@ ComesBeforeWriting (status.LogFull place) = Unit {0}
 -- want of memory
 abbrev pub Answers : Status → Result Script ℕ → Type 0
 Answers status.Done said = IsOk said
+Answers (status.No line) said = ⊥
 Answers (status.Usage word) said = ⊥
-Answers (status.Script line) said = said ≡ Err line
+Answers (status.Script line fault) said = said ≡ Err line
 Answers status.ReadFault said = Unit {0}
 Answers status.WriteFault said = IsOk said
 Answers status.NoMemory said = Unit {0}

@@ -1,6 +1,7 @@
 //! The commands, from the bytes in to the bytes out.
 #![tactic(auto)]
 
+mod gate;
 mod middle;
 mod print;
 mod replies;
@@ -10,6 +11,7 @@ mod sure;
 mod tests;
 mod top;
 
+pub use gate::{FreeGate, Gate};
 pub use status::Status;
 pub use sure::replay_bytes;
 pub use top::{cfs_words, replay};

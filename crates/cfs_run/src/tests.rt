@@ -1,15 +1,18 @@
 //! A replay, and the words, lines and faults that end a command.
 
-use crate::{Status, cfs_words, replay, replay_bytes};
+use crate::{FreeGate, Status, cfs_words, replay, replay_bytes};
 use cfs_io::{MemSink, MemSource, SureSink};
+use cfs_script::Fault;
+use std::sync::Wait;
 use std::test::Fail;
+use std::thread::Threads;
 
 const SCRIPT: &str = "places 1 1\nclient 1 create /x\nturns 1 1\n";
 
 // The status of these words, and how many bytes were written. The source gives ten bytes at a read, and fails at the
 // calls in `fails`.
-fn outcome_of(
-    rt: &HostRuntime,
+fn outcome_of<R: Threads + Wait + Sync + AllocGlobal>(
+    rt: &R,
     words: &[&str],
     text: &str,
     fails: &[u64],
@@ -22,7 +25,7 @@ fn outcome_of(
     let bytes = Vec::from_slice(alloc, text.as_bytes())?;
     let mut source = MemSource::new(bytes, 10, Vec::from_slice(alloc, fails)?);
     let mut sink = SureSink::new();
-    let status = cfs_words(alloc, &list, &mut source, &mut sink);
+    let status = cfs_words(rt, alloc, &list, &mut source, &mut sink, &FreeGate);
     Ok((status, sink.count()))
 }
 
@@ -35,12 +38,27 @@ fn a_command_that_ends_before_its_run(rt: HostRuntime) -> Result<(), Fail> {
     let more = outcome_of(&rt, &["replay", "it"], SCRIPT, &[])?;
     assert_eq!(rt; more, (Status::Usage { word: 1 }, 0));
     let bad = outcome_of(&rt, &["replay"], "places 1 1\nclient 1 move /x\n", &[])?;
-    assert_eq!(rt; bad, (Status::Script { line: 2 }, 0));
+    assert_eq!(rt;
+        bad,
+        (
+            Status::Script {
+                line: 2,
+                fault: Fault::NotBuilt
+            },
+            0
+        )
+    );
     let fault = outcome_of(&rt, &["replay"], SCRIPT, &[2])?;
     assert_eq!(rt; fault, (Status::ReadFault, 0));
     assert_eq!(rt; fault.0.code(), 4);
     let short = Vec::from_slice(rt.alloc(), "places 1 1".as_bytes())?;
-    assert_eq!(rt; replay_bytes(rt.alloc(), short), Status::Script { line: 1 });
+    assert_eq!(rt;
+        replay_bytes(rt.alloc(), short),
+        Status::Script {
+            line: 1,
+            fault: Fault::NotBuilt
+        }
+    );
     Ok(())
 }
 

@@ -2,15 +2,19 @@
 ghost use Rattle.std.specs.Prelude.{◌≡◌, ◌≢◌, ◌↔◌, ℕ, List, map, string_bytes, Some, None, IsSome};
 ghost use Rattle.cfs_ids.specs.declared.ids.PlaceNo.{PlaceNo};
 ghost use Rattle.cfs_io.specs.Causes.{Rose};
+ghost use Rattle.cfs_script.specs.declared.script.Fault.{Fault};
 ghost use Rattle.cfs_script.specs.Outcomes.{HasRefused};
 ghost use Rattle.cfs_script.specs.Scripts.{script_of};
 ghost use Rattle.cfs_run.specs.Outcomes.{Replayed, CutOff, ComesBeforeWriting, Answers, usage_of};
 
+use crate::gate::Gate;
 use crate::print::{PrintFault, print};
 use crate::status::Status;
 use cfs_io::{Sink, Source};
-use cfs_script::{Fault, ScriptRefusal, read_script};
+use cfs_script::{ScriptRefusal, read_script};
 use std::alloc::Global;
+use std::sync::Wait;
+use std::thread::Threads;
 
 /// Reads a script, makes its turns, and writes what came of them.
 pub fn replay<S: Source, K: Sink>(alloc: Global, source: &mut S, sink: &mut K) -> Status
@@ -18,7 +22,7 @@ pub fn replay<S: Source, K: Sink>(alloc: Global, source: &mut S, sink: &mut K) -
     ensures done { result ≡ Status.Done → Replayed (S.left source.old) (S.left source.new) (K.taken sink.old) (K.taken sink.new) }
 
     // The first line that breaks the form.
-    ensures script { (line : ℕ) → result ≡ Status.Script line → HasRefused (S.left source.old) (S.left source.new) line }
+    ensures script { (line : ℕ) (fault : Fault) → result ≡ Status.Script line fault → HasRefused (S.left source.old) (S.left source.new) line }
 
     // A fault has its cause, and what was taken is a front of the text.
     ensures read_fault { result ≡ Status.ReadFault → Rose (S.faults source.old) (S.faults source.new) }
@@ -32,16 +36,12 @@ pub fn replay<S: Source, K: Sink>(alloc: Global, source: &mut S, sink: &mut K) -
     // Where the source tells what it has left, no other status comes but for faults and want of memory.
     ensures told { (left : List ℕ) → S.left source.old ≡ Some left → Answers result (script_of left) }
     ensures no_usage { (word : ℕ) → result ≢ Status.Usage word }
+    ensures no_verdict { (line : ℕ) → result ≢ Status.No line }
 {
     let script = match read_script(alloc, source) {
         Ok(script) => script,
         Err(ScriptRefusal::ReadFault) => return Status::ReadFault,
-        Err(
-            ScriptRefusal::Bad {
-                line,
-                fault: Fault::NotBuilt,
-            },
-        ) => return Status::Script { line },
+        Err(ScriptRefusal::Bad { line, fault }) => return Status::Script { line, fault },
         Err(ScriptRefusal::NoMemory) => return Status::NoMemory,
     };
     match print(alloc, &script, sink) {
@@ -75,12 +75,14 @@ fn usage(words: &[String]) -> Option<usize>
     }
 }
 
-/// All that the program does.
-pub fn cfs_words<S: Source, K: Sink>(
+/// All that the program does. The runtime and the gate are for commands that run on threads; `replay` uses neither.
+pub fn cfs_words<R: Threads + Wait + Sync, S: Source, K: Sink, G: Gate + Sync>(
+    _rt: &R,
     alloc: Global,
     words: &[String],
     source: &mut S,
     sink: &mut K,
+    _gate: &G,
 ) -> Status
     // The index of the first word that isn't expected. Then nothing is read or written.
     ensures usage { (word : ℕ) → (result ≡ Status.Usage word) ↔ (usage_of (map string_bytes words.now) ≡ Some word) }
@@ -90,7 +92,7 @@ pub fn cfs_words<S: Source, K: Sink>(
     ensures done { result ≡ Status.Done → Replayed (S.left source.old) (S.left source.new) (K.taken sink.old) (K.taken sink.new) }
 
     // The first line that breaks the form.
-    ensures script { (line : ℕ) → result ≡ Status.Script line → HasRefused (S.left source.old) (S.left source.new) line }
+    ensures script { (line : ℕ) (fault : Fault) → result ≡ Status.Script line fault → HasRefused (S.left source.old) (S.left source.new) line }
 
     // A fault has its cause, and what was taken is a front of the text.
     ensures read_fault { result ≡ Status.ReadFault → Rose (S.faults source.old) (S.faults source.new) }
@@ -103,6 +105,7 @@ pub fn cfs_words<S: Source, K: Sink>(
 
     // Where the source tells what it has left, no other status comes but for faults and want of memory.
     ensures told { (left : List ℕ) → S.left source.old ≡ Some left → usage_of (map string_bytes words.now) ≡ None → Answers result (script_of left) }
+    ensures no_verdict { (line : ℕ) → result ≢ Status.No line }
 {
     match usage(words) {
         Some(word) => Status::Usage { word },
