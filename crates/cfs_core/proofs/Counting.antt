@@ -1,7 +1,8 @@
 -- A turn keeps the count of the steps and the bounds of the numbers.
-use Rattle.std.proofs.Common.{◌≡◌, ℕ, ◌+◌, ◌≤◌, ◌<◌, List, ◌∷◌, Bool, true, false, refl, sym, ap, subst, arith, length}
+use Rattle.std.proofs.Common.{◌≡◌, ℕ, ◌+◌, ◌≤◌, ◌<◌, List, ◌∷◌, Bool, true, false, refl, sym, ap, ◌∙◌, subst, arith, length}
 use Rattle.std.specs.Prelude.{Option, Some, None, nat_lt, nat_le, ◌==◌, if◌then◌else◌}
 use Rattle.std.proofs.lemmas.Bool.Decides.{nat_tests}
+use Rattle.cfs_ids.specs.declared.ids.Client.{Client}
 use Rattle.cfs_ids.specs.declared.ids.PlaceNo.{PlaceNo}
 use Rattle.cfs_ids.specs.declared.ids.Actor.TheVariants.{Client as ClientActor}
 use Rattle.cfs_steps.specs.declared.ask.Ask.{Ask}
@@ -119,3 +120,15 @@ many-in false false order h clients k f = many (length order) (length h.roster_l
 
 pub many-steps : (order : List PlaceNo) (h : Held) (clients : ℕ → Progress) (ask : Ask) → IsCounted order h clients → log_full h ask ≡ true → 1048576 ≤ length order
 many-steps order h clients ask k f = many-in _ _ order h clients k f
+
+-- ---- a place that serves has room in its log
+room : (count last place_last : ℕ) → is_full count last place_last ≡ false → nat_le 1048576 count ≡ false
+room count last place_last h = grind (arith, nat_tests)
+
+room_in : (a b : Bool) (h : Held) (last : ℕ) → full_in a b h last ≡ false → log_full_in a b h ≡ false
+room_in true b h last f = room (length h.shard_log) last h.shard_last f
+room_in false true h last f = room (length h.store_log) last h.store_last f
+room_in false false h last f = room (length h.roster_log) last h.roster_last f
+
+pub log-room : (c : Client) (h : Held) (p : Progress) (ask : Ask) → Some ask ≡ next_ask c p → full_next c h p ≡ false → log_full h ask ≡ false
+log-room c h p ask next f = room_in _ _ h p.last (ap (full_asked h p.last) next ∙ f)

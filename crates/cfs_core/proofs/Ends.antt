@@ -5,9 +5,9 @@ use Rattle.std.proofs.lemmas.List.{take_more, reverse-append}
 use Rattle.cfs_ids.specs.declared.ids.PlaceNo.{PlaceNo}
 use Rattle.cfs_steps.specs.declared.entry.Entry.{Entry}
 use Rattle.cfs_core.specs.Ends.{placed}
-use Rattle.cfs_core.specs.Weave.{Logs, first_entry, without_first, taken, left, woven}
+use Rattle.cfs_core.specs.Weave.{first_entry, without_first}
 
-pub reverse-take : {X : Type 0} (xs : List X) (i : ℕ) (d : X) → i < length xs → reverse (take (i + 1) xs) ≡ get_or xs i d ∷ reverse (take i xs)
+reverse-take : {X : Type 0} (xs : List X) (i : ℕ) (d : X) → i < length xs → reverse (take (i + 1) xs) ≡ get_or xs i d ∷ reverse (take i xs)
 reverse-take xs i d lt = ap reverse (take_more xs i d lt) ∙ reverse-append (take i xs) (get_or xs i d ∷ [])
 
 got : {X : Type 0} (xs : List X) (i : ℕ) (x d : X) → Some x ≡ slice_get xs i → (i < length xs) × (x ≡ get_or xs i d)
@@ -16,11 +16,11 @@ got (y ∷ ys) zero x d e = (omega arith, cc)
 got (y ∷ ys) (suc i) x d e = let r = got ys i x d e in (omega (arith, r.0), r.1)
 
 -- the newest entry of the first n
-pub newest-first : (log : List Entry) (n : ℕ) (entry : Entry) → Some entry ≡ slice_get log n → (place : PlaceNo) → first_entry place (reverse (take (n + 1) log)) ≡ placed place (Some entry)
+newest-first : (log : List Entry) (n : ℕ) (entry : Entry) → Some entry ≡ slice_get log n → (place : PlaceNo) → first_entry place (reverse (take (n + 1) log)) ≡ placed place (Some entry)
 newest-first log n entry e place = let r = got log n entry entry e in
     ap (first_entry place) (reverse-take log n entry r.0) ∙ ap (λ (x : Entry). (place, x) ∷ []) (sym r.1)
 
-pub newest-rest : (log : List Entry) (n : ℕ) (d : Entry) → n < length log → reverse (take n log) ≡ without_first (reverse (take (n + 1) log))
+newest-rest : (log : List Entry) (n : ℕ) (d : Entry) → n < length log → reverse (take n log) ≡ without_first (reverse (take (n + 1) log))
 newest-rest log n d lt = sym (ap without_first (reverse-take log n d lt))
 
 none_past : {X : Type 0} (xs : List X) (i : ℕ) → None ≡ slice_get xs i → length xs ≤ i
@@ -41,20 +41,3 @@ first-of-left log (suc m) (Some entry) some le is place = rw (sym (add-one m)) (
 pub rest-of-left : (log : List Entry) (n m : ℕ) → m + 1 ≡ n → n ≤ length log → reverse (take m log) ≡ without_first (reverse (take n log))
 rest-of-left [] n m is le = absurd (omega arith)
 rest-of-left (e ∷ es) n m is le = newest-rest (e ∷ es) m e (omega arith) ∙ ap (λ (k : ℕ). without_first (reverse (take k (e ∷ es)))) is
-
--- of none there is no newest
-pub first-of-none : (log : List Entry) (place : PlaceNo) → first_entry place (reverse (take 0 log)) ≡ placed place None
-first-of-none log place = refl
-
--- one place back in the order
-pub one-back : (order : List PlaceNo) (n at : ℕ) (place : PlaceNo) (logs rest : Logs) (done : List (PlaceNo × Entry)) (newest : Option Entry) → at + 1 ≡ n → at < length order → place ≡ get_or order at place → taken place logs ≡ placed place newest → rest ≡ left place logs
-    → (done ++ placed place newest) ++ woven (reverse (take at order)) rest ≡ done ++ woven (reverse (take n order)) logs
-one-back order n at place logs rest done newest is lt which first later =
-    append_assoc done (placed place newest) (woven (reverse (take at order)) rest)
-    ∙ ap (λ (es : List (PlaceNo × Entry)). done ++ es) (sym (steps))
-  where
-    opened : reverse (take n order) ≡ place ∷ reverse (take at order)
-    opened = ap (λ (k : ℕ). reverse (take k order)) (sym is) ∙ reverse-take order at place lt ∙ ap (λ (p : PlaceNo). p ∷ reverse (take at order)) (sym which)
-
-    steps : woven (reverse (take n order)) logs ≡ placed place newest ++ woven (reverse (take at order)) rest
-    steps = ap (λ (ps : List PlaceNo). woven ps logs) opened ∙ (λ j. first j ++ woven (reverse (take at order)) (sym later j))

@@ -7,7 +7,7 @@ use Rattle.cfs_rules.specs.Worlds.{Progress, calls_of, client_of as numbered}
 use Rattle.cfs_actor.specs.declared.client_state.ClientState.{ClientState}
 use Rattle.cfs_actor.specs.Clients.{client_of, progress_of}
 use Rattle.cfs_core.specs.Clients.{progress_in, members_of}
-use Rattle.cfs_core.specs.Ends.{calls_in}
+use Rattle.cfs_core.specs.Ends.{calls_of_states}
 
 -- the calls of a client in a list of states
 abbrev pub calls_at : List ClientState → ℕ → ClientCalls
@@ -25,7 +25,7 @@ same_as : (b : Bool) → b ≡ true → (p q : Progress) → (if b then p else q
 same_as true e p q = refl
 same_as false e p q = cc
 
-pub calls-by-number : (states : List ClientState) → IsRising (members_of states) → calls_in states ≡ map (calls_at states) (members_of states)
+pub calls-by-number : (states : List ClientState) → IsRising (members_of states) → calls_of_states states ≡ map (calls_at states) (members_of states)
 calls-by-number [] rising = refl
 calls-by-number (s ∷ states) rising =
     let own : ((client_of s).0 == (client_of s).0) ≡ true = grind (arith, nat_tests) in

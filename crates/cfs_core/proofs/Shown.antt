@@ -9,7 +9,7 @@ use Rattle.cfs_rules.specs.Worlds.{Progress, starts, calls_of}
 use Rattle.cfs_actor.specs.declared.client_state.ClientState.{ClientState}
 use Rattle.cfs_actor.specs.Clients.{client_of, progress_of}
 use Rattle.cfs_core.specs.Clients.{progress_in, members_of}
-use Rattle.cfs_core.specs.Ends.{calls_in}
+use Rattle.cfs_core.specs.Ends.{calls_of_states}
 use Rattle.cfs_core.specs.Opening.{shown, started, calls_in as calls_of_lists, members_in, StartsAs}
 
 -- a state that shows the same in the place of another
@@ -90,5 +90,5 @@ members_of-started (s ∷ states) (l ∷ lists) e =
     λ j. (who j).0 ∷ later j
 
 -- one more state's calls
-pub calls_in-more : (states : List ClientState) (i : ℕ) (d : ClientState) → i < length states → calls_in (take (i + 1) states) ≡ calls_in (take i states) ++ calls_of (client_of (get_or states i d)) (progress_of (get_or states i d)) ∷ []
-calls_in-more states i d lt = ap calls_in (take_more states i d lt) ∙ map-append (λ (s : ClientState). calls_of (client_of s) (progress_of s)) (take i states) (get_or states i d ∷ [])
+pub calls_of_states-more : (states : List ClientState) (i : ℕ) (d : ClientState) → i < length states → calls_of_states (take (i + 1) states) ≡ calls_of_states (take i states) ++ calls_of (client_of (get_or states i d)) (progress_of (get_or states i d)) ∷ []
+calls_of_states-more states i d lt = ap calls_of_states (take_more states i d lt) ∙ map-append (λ (s : ClientState). calls_of (client_of s) (progress_of s)) (take i states) (get_or states i d ∷ [])

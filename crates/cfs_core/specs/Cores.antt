@@ -1,6 +1,11 @@
--- What a core shows: its world, its members, and the steps made so far.
-use Rattle.std.specs.Prelude.{ℕ, List, Bool, length}
-use Rattle.cfs_rules.specs.Worlds.{World}
+-- What a core shows: its world, its members, the steps made so far, and whose next step finds a full log.
+use Rattle.std.specs.Prelude.{◌≡◌, ℕ, List, Bool, true, false, length, Option, Some, None}
+use Rattle.cfs_ids.specs.declared.ids.PlaceNo.{PlaceNo}
+use Rattle.cfs_steps.specs.declared.ask.Ask.{Ask}
+use Rattle.cfs_steps.specs.Asks.{place_of}
+use Rattle.cfs_rules.specs.Worlds.{World, client_of, next_ask}
+use Rattle.cfs_view.specs.Held.{Held, log_full}
+use Rattle.cfs_view.specs.Views.{held}
 use Rattle.cfs_core.specs.Clients as states
 use Rattle.cfs_core.specs.declared.service.Core.{Core}
 
@@ -17,3 +22,17 @@ is_member core c = states.is_member core.clients.items c
 -- how many steps were made
 abbrev pub steps_of : Core → ℕ
 steps_of core = length core.order.items
+
+-- what the places hold, with their logs
+abbrev pub held_of : Core → Held
+held_of core = held core.places
+
+abbrev pub asked_of : Core → ℕ → Option Ask
+asked_of core c = next_ask (client_of c) ((world_of core).clients c)
+
+-- the client's next step is at this place, and the log there has 1,048,576 entries
+pub record AsksFull (core : Core) (c : ℕ) (place : PlaceNo) : Type 0 where
+  pub ask : Ask
+  pub next : Some ask ≡ asked_of core c
+  pub there : place ≡ place_of ask
+  pub full : log_full (held_of core) ask ≡ true

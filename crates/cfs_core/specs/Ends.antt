@@ -32,5 +32,5 @@ placed place None = []
 placed place (Some entry) = (place, entry) ∷ []
 
 -- the calls of the clients of these states
-abbrev pub calls_in : List ClientState → List ClientCalls
-calls_in states = map (λ (state : ClientState). calls_of (client_of state) (progress_of state)) states
+abbrev pub calls_of_states : List ClientState → List ClientCalls
+calls_of_states states = map (λ (state : ClientState). calls_of (client_of state) (progress_of state)) states

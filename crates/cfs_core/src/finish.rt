@@ -4,7 +4,7 @@ ghost use Rattle.std.specs.Option.{option_copied};
 ghost use Rattle.cfs_ids.specs.declared.ids.PlaceNo.{PlaceNo};
 ghost use Rattle.cfs_steps.specs.declared.entry.Entry.{Entry};
 ghost use Rattle.cfs_view.specs.Views.{held};
-ghost use Rattle.cfs_core.specs.Ends.{logs_left, IsWithin, placed, calls_in};
+ghost use Rattle.cfs_core.specs.Ends.{logs_left, IsWithin, placed, calls_of_states};
 ghost use Rattle.cfs_core.specs.Opening.{shown};
 ghost use Rattle.cfs_core.specs.Weave.{first_entry, without_first, taken, left as left_of, woven, logs_of};
 
@@ -89,7 +89,7 @@ pub fn calls_of_all(
     clients: &mut Vec<ClientState>,
 ) -> Result<Vec<ClientCalls>, NoMemory>
     ensures same { map shown clients.new.items ≡ map shown clients.old.items }
-    ensures calls { IfOk result (λ calls. calls.items ≡ calls_in clients.old.items) }
+    ensures calls { IfOk result (λ calls. calls.items ≡ calls_of_states clients.old.items) }
 {
     let mut calls = Vec::new(alloc);
     for i in 0..clients.len() {

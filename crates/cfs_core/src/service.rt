@@ -1,9 +1,10 @@
 //! Places and clients, turned step by step.
-ghost use Rattle.std.specs.Prelude.{◌≡◌, ◌≢◌, ◌≤◌, ◌↔◌, ◌+◌, IsTrue, true, Ok, Some, ℕ, IfOk, IfErr};
+ghost use Rattle.std.specs.Prelude.{◌≡◌, ◌≢◌, ◌≤◌, ◌↔◌, ◌+◌, IsTrue, true, false, Ok, Some, ℕ, IfOk, IfErr};
 ghost use Rattle.std.proofs.Props.{props};
 ghost use Rattle.cfs_steps.specs.declared.ask.Ask.{Ask};
 ghost use Rattle.cfs_steps.specs.Asks.{place_of};
 ghost use Rattle.cfs_rules.specs.Worlds.{opening, turn};
+ghost use Rattle.cfs_view.specs.Held.{log_full};
 ghost use Rattle.cfs_core.specs.Clients.{CountedIn, number_in};
 ghost use Rattle.cfs_core.specs.Finished.{IsRunOf};
 ghost use Rattle.cfs_core.specs.Opening.{calls_in, members_in};
@@ -30,7 +31,7 @@ pub struct Core {
 }
 
 impl Core {
-    ghost use Rattle.cfs_core.specs.Cores.{world_of, members_of, is_member, steps_of};
+    ghost use Rattle.cfs_core.specs.Cores.{world_of, members_of, is_member, steps_of, held_of, asked_of, AsksFull};
 
     /// The core of a script before its first turn. The Err is want of memory.
     pub fn begin(alloc: Global, script: &Script) -> Result<Core, NoMemory>
@@ -56,7 +57,10 @@ impl Core {
         ensures same { result ≢ Ok Turned.Stepped → world_of self.new ≡ world_of self.old }
         ensures steps { result ≡ Ok Turned.Stepped → steps_of self.new ≡ steps_of self.old + 1 }
         ensures same_steps { result ≢ Ok Turned.Stepped → steps_of self.new ≡ steps_of self.old }
-        ensures full { (place : _) → result ≡ Ok (Turned.Full place) → 1048576 ≤ steps_of self.old }
+        ensures full { (place : _) → result ≡ Ok (Turned.Full place) → AsksFull self.old (number_in actor) place }
+        ensures room { result ≡ Ok Turned.Stepped → (ask : Ask) → Some ask ≡ asked_of self.old (number_in actor) → log_full (held_of self.old) ask ≡ false }
+        ensures many { (place : _) → result ≡ Ok (Turned.Full place) → 1048576 ≤ steps_of self.old }
+        ensures same_held { result ≢ Ok Turned.Stepped → held_of self.new ≡ held_of self.old }
         ensures members { members_of self.new ≡ members_of self.old }
     {
         let Actor::Client(client) = actor;

@@ -1,5 +1,5 @@
 //! A turn among all clients.
-ghost use Rattle.std.specs.Prelude.{◌≡◌, ◌==◌, ◌≢◌, ◌≤◌, ◌↔◌, ◌+◌, IsTrue, true, Ok, Some, ℕ, position, length};
+ghost use Rattle.std.specs.Prelude.{◌≡◌, ◌==◌, ◌≢◌, ◌≤◌, ◌↔◌, ◌+◌, IsTrue, true, false, Ok, Some, ℕ, position, length};
 ghost use Rattle.cfs_ids.specs.declared.ids.Client.{Client};
 ghost use Rattle.cfs_steps.specs.declared.ask.Ask.{Ask};
 ghost use Rattle.cfs_steps.specs.Asks.{place_of};
@@ -36,8 +36,10 @@ pub fn turn_among(
     ensures stepped { result ≡ Ok Turned.Stepped → world_in places.new clients.new.items order.new.items ≡ turn (world_in places.old clients.old.items order.old.items) client.0 }
     ensures idle { (result ≡ Ok Turned.Idle) ↔ ((progress_in clients.old.items client.0).ended ≡ true) }
     ensures full { (place : _) → result ≡ Ok (Turned.Full place) → (ask : Ask) × (Some ask ≡ next_ask client (progress_in clients.old.items client.0)) × (place ≡ place_of ask) × (log_full (held places.old) ask ≡ true) }
+    ensures room { result ≡ Ok Turned.Stepped → (ask : Ask) → Some ask ≡ next_ask client (progress_in clients.old.items client.0) → log_full (held places.old) ask ≡ false }
     ensures many { (place : _) → result ≡ Ok (Turned.Full place) → 1048576 ≤ length order.old.items }
     ensures same { result ≢ Ok Turned.Stepped → world_in places.new clients.new.items order.new.items ≡ world_in places.old clients.old.items order.old.items }
+    ensures same_held { result ≢ Ok Turned.Stepped → held places.new ≡ held places.old }
     ensures steps { result ≡ Ok Turned.Stepped → length order.new.items ≡ length order.old.items + 1 }
     ensures same_steps { result ≢ Ok Turned.Stepped → length order.new.items ≡ length order.old.items }
     ensures members { members_of clients.new.items ≡ members_of clients.old.items }

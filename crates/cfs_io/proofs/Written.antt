@@ -38,7 +38,7 @@ pub AppendsFront-next : (a b c : Option (List ℕ)) (xs ys : List ℕ) → Appen
 AppendsFront-next a b c xs ys h i = record { front = xs ++ i.front; back = i.back; whole = ap (λ l. xs ++ l) i.whole ∙ sym (append_assoc xs i.front i.back); taken = Appends-append a b c xs i.front h i.taken }
 
 -- a whole text, split at one of its parts
-flat_map-at : {X : Type 0} (f : X → List ℕ) (xs : List X) (i : ℕ) (d : X) → i < length xs → flat_map f xs ≡ flat_map f (take i xs) ++ (f (get_or xs i d) ++ flat_map f (drop (suc i) xs))
+pub flat_map-at : {X : Type 0} (f : X → List ℕ) (xs : List X) (i : ℕ) (d : X) → i < length xs → flat_map f xs ≡ flat_map f (take i xs) ++ (f (get_or xs i d) ++ flat_map f (drop (suc i) xs))
 flat_map-at f xs i d h = ap (flat_map f) (sym (take-append-drop i xs)) ∙ flat_map-append f (take i xs) (drop i xs) ∙ ap (λ l. flat_map f (take i xs) ++ flat_map f l) (drop-cons xs i d h)
 
 -- the parts before this one, and a front of this one

@@ -1,17 +1,25 @@
 -- Runs, turn by turn.
-use Rattle.std.proofs.Common.{◌≡◌, ℕ, ◌+◌, ◌<◌, List, [], ◌∷◌, ◌++◌, Bool, true, false, ◌==◌, refl, sym, ap, ◌∙◌, subst, map, take, get_or, length}
+use Rattle.std.proofs.Common.{◌≡◌, ℕ, ◌+◌, ◌<◌, List, [], ◌∷◌, ◌++◌, Bool, true, false, ◌==◌, refl, sym, ap, ◌∙◌, subst, map, take, get_or, length, Ok, Result}
 use Rattle.std.specs.Prelude.{IsTrue}
 use Rattle.std.specs.List.{list_any, list_all}
-use Rattle.std.proofs.lemmas.List.{take_more, map-append, take-map}
+use Rattle.std.proofs.lemmas.List.{take_more, map-append, take-map, length-map}
+use Rattle.std.proofs.lemmas.Option.{slice_get-get_or}
 use Rattle.std.proofs.lemmas.List.Folds.{list_all_at}
 use Rattle.cfs_ids.specs.declared.ids.Actor.{Actor}
+use Rattle.cfs_ids.specs.declared.ids.PlaceNo.{PlaceNo}
 use Rattle.cfs_ids.specs.declared.call.Call.{Call}
+use Rattle.cfs_ids.specs.declared.memory.NoMemory.{NoMemory}
 use Rattle.cfs_rules.specs.Facts.{CountsHold, AttributesHold}
-use Rattle.cfs_rules.specs.Worlds.{World, turn, turn_asking, asked_next, client_of as numbered, opening, run_of}
+use Rattle.cfs_rules.specs.Worlds.{World, turn, turn_asking, asked_next, next_ask, client_of as numbered, opening, run_of}
 use Rattle.cfs_laws_places.proofs.Laws.{counts_of, attributes_of}
 use Rattle.cfs_actor.specs.declared.client_state.ClientState.{ClientState}
 use Rattle.cfs_core.specs.Clients.{members_of, is_member, number_in}
-use Rattle.cfs_law_tree.specs.Drives.{StopsIn}
+use Rattle.cfs_core.specs.Cores.{AsksFull, held_of, world_of}
+use Rattle.cfs_core.specs.declared.service.Core.{Core}
+use Rattle.cfs_view.specs.Held.{Held, log_full}
+use Rattle.cfs_law_tree.specs.declared.turns.Driven.{Driven}
+use Rattle.cfs_law_tree.specs.declared.turns.Driven.TheVariants.{Full}
+use Rattle.cfs_law_tree.specs.Drives.{StopsIn, StopsFull}
 
 pub run-append : (xs ys : List ℕ) (w : World) → run_of (xs ++ ys) w ≡ run_of ys (run_of xs w)
 run-append [] ys w = refl
@@ -51,5 +59,31 @@ run-more actors i d w lt = ap (λ (turns : List ℕ). run_of turns w) (ap (map n
     ∙ run-append (map number_in (take i actors)) (number_in (get_or actors i d) ∷ []) w
 
 -- the turns before one are some of all turns
-pub stops : (actors : List Actor) (i : ℕ) (before after : World) → after ≡ run_of (map number_in (take i actors)) before → StopsIn (map number_in actors) before after
-stops actors i before after e = record { made = i; so_far = e ∙ ap (λ (turns : List ℕ). run_of turns before) (sym (take-map number_in i actors)) }
+pub stops : (actors : List Actor) (i : ℕ) (before after : World) → i < length actors → after ≡ run_of (map number_in (take i actors)) before → StopsIn (map number_in actors) before after
+stops actors i before after lt e = record {
+  made = i;
+  early = rw (sym (length-map actors number_in)) at lt;
+  so_far = e ∙ ap (λ (turns : List ℕ). run_of turns before) (sym (take-map number_in i actors));
+}
+
+-- of one core to the next, where only what was asked of it has changed
+pub same-full : (was is : Core) (c : ℕ) (place : PlaceNo) → world_of is ≡ world_of was → held_of is ≡ held_of was → AsksFull was c place → AsksFull is c place
+same-full was is c place world held full = record {
+  ask = full.ask;
+  next = full.next ∙ ap (λ (w : World). next_ask (numbered c) (w.clients c)) (sym world);
+  there = full.there;
+  full = ap (λ (h : Held). log_full h full.ask) held ∙ full.full;
+}
+
+pub stops-full : (actors : List Actor) (i : ℕ) (d : Actor) (before : World) (was is : Core) (place : PlaceNo) → i < length actors → world_of is ≡ run_of (map number_in (take i actors)) before
+    → world_of is ≡ world_of was → held_of is ≡ held_of was → AsksFull was (number_in (get_or actors i d)) place → StopsFull actors before is place
+stops-full actors i d before was is place lt e world held full = record {
+  made = i;
+  actor = get_or actors i d;
+  next = sym (slice_get-get_or actors i d lt);
+  so_far = e ∙ ap (λ (turns : List ℕ). run_of turns before) (sym (take-map number_in i actors));
+  full = same-full was is (number_in (get_or actors i d)) place world held full;
+}
+
+pub same-place : (p q : PlaceNo) → ◌≡◌ {A = Result Driven NoMemory} (Ok (Full p)) (Ok (Full q)) → p ≡ q
+same-place p q e = cc

@@ -6,7 +6,7 @@ ghost use Rattle.cfs_rules.specs.Facts.{CountsHold, AttributesHold};
 ghost use Rattle.cfs_rules.specs.Worlds.{opening, run_of};
 ghost use Rattle.cfs_core.specs.Clients.{number_in};
 ghost use Rattle.cfs_core.specs.Cores.{world_of, members_of, steps_of};
-ghost use Rattle.cfs_law_tree.specs.Drives.{is_turn_of, StopsIn};
+ghost use Rattle.cfs_law_tree.specs.Drives.{is_turn_of, StopsIn, StopsFull};
 
 use cfs_core::{Core, Turned};
 use cfs_ids::{NoMemory, PlaceNo};
@@ -27,7 +27,8 @@ pub fn drive(core: &mut Core, turns: &TurnList) -> Result<Driven, NoMemory>
     requires { IsTrue (list_all (is_turn_of (members_of core.old)) turns.now) }
     ensures done { result ≡ Ok Driven.Done → world_of core.new ≡ run_of (map number_in turns.now) (world_of core.old) }
     ensures stopped { result ≢ Ok Driven.Done → StopsIn (map number_in turns.now) (world_of core.old) (world_of core.new) }
-    ensures full { (place : _) → result ≡ Ok (Driven.Full place) → 1048576 ≤ steps_of core.new }
+    ensures full { (place : _) → result ≡ Ok (Driven.Full place) → StopsFull turns.now (world_of core.old) core.new place }
+    ensures many { (place : _) → result ≡ Ok (Driven.Full place) → 1048576 ≤ steps_of core.new }
     ensures steps { steps_of core.new ≤ steps_of core.old + length turns.now }
     ensures members { members_of core.new ≡ members_of core.old }
 

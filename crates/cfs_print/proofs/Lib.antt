@@ -1,3 +1,4 @@
+pub mod Passed
 pub mod Walked
 pub mod Naming
 pub mod Counts

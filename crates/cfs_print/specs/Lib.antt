@@ -1,3 +1,4 @@
+pub mod Passing
 pub mod Pieces
 pub mod Commands
 pub mod Lines

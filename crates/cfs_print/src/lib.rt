@@ -13,11 +13,8 @@ mod tests;
 mod tree;
 mod write;
 
-pub use commands::{CommandReply, put_command, put_commands};
-pub use lines::{put_history, put_line};
+pub use commands::CommandReply;
 pub use named::NamedFiles;
 pub use printed::Printed;
 pub use replies::ReplyTable;
-pub use summary::{Summary, put_head, put_summary};
-pub use tree::{put_tree, put_unnamed};
 pub use write::write_run;

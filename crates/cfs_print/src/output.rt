@@ -1,10 +1,12 @@
-//! Writing the parts of a line, whole, into any sink. None of these takes memory.
-ghost use Rattle.std.specs.Prelude.{OnOk, decimal, flat_map};
+//! Writing the parts of a line into any sink, a page at a time. None of these takes memory.
+ghost use Rattle.std.specs.Prelude.{◌≡◌, [], OnOk, decimal, flat_map};
 ghost use Rattle.std.specs.Io.KnownBytes.{Appends};
 ghost use Rattle.cfs_io.specs.Causes.{HasCause};
 ghost use Rattle.cfs_io.specs.Output.{AppendsFront};
+ghost use Rattle.cfs_print.specs.Passing.{Adds, AddsFront};
 ghost use Rattle.cfs_print.specs.Pieces.{piece_text, position_text, node_text, lettered};
 
+use arrayvec::ArrayVec;
 use cfs_ids::{DirId, FileId, Node};
 use cfs_io::{Failed, Sink};
 use itoa::Buffer;
@@ -18,9 +20,12 @@ pub(crate) enum Piece<'a> {
     Node(Option<Node>),
 }
 
-/// Writes all of the bytes. After `Failed` a front of them was taken.
+/// Bytes that a sink is given next, all at once.
+pub(crate) type Page = ArrayVec<u8, 4096>;
+
+// Writes all of the bytes. After `Failed` a front of them was taken.
 #[tactic(auto, using(cfs_io::proofs::Written::writing))]
-pub(crate) fn put<K: Sink>(sink: &mut K, bytes: &[u8]) -> Result<(), Failed>
+fn hand_over<K: Sink>(sink: &mut K, bytes: &[u8]) -> Result<(), Failed>
     ensures ok { OnOk result (Appends (K.taken sink.old) (K.taken sink.new) bytes.now) }
     ensures front { AppendsFront (K.taken sink.old) (K.taken sink.new) bytes.now }
     ensures cause { HasCause (K.faults sink.old) (K.faults sink.new) result }
@@ -32,74 +37,120 @@ pub(crate) fn put<K: Sink>(sink: &mut K, bytes: &[u8]) -> Result<(), Failed>
     Ok(())
 }
 
-#[tactic(auto, using(cfs_io::proofs::Written::writing))]
-fn put_number<K: Sink>(sink: &mut K, number: u64) -> Result<(), Failed>
-    ensures ok { OnOk result (Appends (K.taken sink.old) (K.taken sink.new) (decimal number)) }
-    ensures front { AppendsFront (K.taken sink.old) (K.taken sink.new) (decimal number) }
+/// Hands the page over, and begins it anew. After `Failed` a front of it was taken.
+pub(crate) fn turn_page<K: Sink>(sink: &mut K, page: &mut Page) -> Result<(), Failed>
+    ensures ok { OnOk result (Appends (K.taken sink.old) (K.taken sink.new) page.old.items) }
+    ensures empty { OnOk result (page.new.items ≡ []) }
+    ensures front { AppendsFront (K.taken sink.old) (K.taken sink.new) page.old.items }
+    ensures cause { HasCause (K.faults sink.old) (K.faults sink.new) result }
+{
+    hand_over(sink, page.as_slice())?;
+    page.clear();
+    Ok(())
+}
+
+// Hands the page over, and then the bytes.
+#[tactic(auto, using(crate::proofs::Passed::paging))]
+fn put_past<K: Sink>(sink: &mut K, page: &mut Page, bytes: &[u8]) -> Result<(), Failed>
+    ensures ok { OnOk result (Adds (K.taken sink.old) page.old.items (K.taken sink.new) page.new.items bytes.now) }
+    ensures front { AddsFront (K.taken sink.old) page.old.items (K.taken sink.new) bytes.now }
+    ensures cause { HasCause (K.faults sink.old) (K.faults sink.new) result }
+{
+    turn_page(sink, page)?;
+    hand_over(sink, bytes)
+}
+
+/// Adds the bytes to the page, which is handed over first where they find no room in it. After `Failed` a front of the
+/// page and the bytes was taken.
+#[tactic(auto, using(crate::proofs::Passed::paging))]
+pub(crate) fn put<K: Sink>(sink: &mut K, page: &mut Page, bytes: &[u8]) -> Result<(), Failed>
+    ensures ok { OnOk result (Adds (K.taken sink.old) page.old.items (K.taken sink.new) page.new.items bytes.now) }
+    ensures front { AddsFront (K.taken sink.old) page.old.items (K.taken sink.new) bytes.now }
+    ensures cause { HasCause (K.faults sink.old) (K.faults sink.new) result }
+{
+    match page.try_extend_from_slice(bytes) {
+        Ok(()) => Ok(()),
+        Err(_) => put_past(sink, page, bytes),
+    }
+}
+
+#[tactic(auto, using(crate::proofs::Passed::passing))]
+fn put_number<K: Sink>(sink: &mut K, page: &mut Page, number: u64) -> Result<(), Failed>
+    ensures ok { OnOk result (Adds (K.taken sink.old) page.old.items (K.taken sink.new) page.new.items (decimal number)) }
+    ensures front { AddsFront (K.taken sink.old) page.old.items (K.taken sink.new) (decimal number) }
     ensures cause { HasCause (K.faults sink.old) (K.faults sink.new) result }
 {
     let mut buffer = Buffer::new();
-    put(sink, buffer.format(number).as_bytes())
+    put(sink, page, buffer.format(number).as_bytes())
 }
 
-#[tactic(auto, using(cfs_io::proofs::Written::writing), unfolding(crate::specs::Pieces::position_text))]
-fn put_position<K: Sink>(sink: &mut K, position: Option<u64>) -> Result<(), Failed>
-    ensures ok { OnOk result (Appends (K.taken sink.old) (K.taken sink.new) (position_text position)) }
-    ensures front { AppendsFront (K.taken sink.old) (K.taken sink.new) (position_text position) }
+#[tactic(auto, using(crate::proofs::Passed::passing), unfolding(crate::specs::Pieces::position_text))]
+fn put_position<K: Sink>(sink: &mut K, page: &mut Page, position: Option<u64>) -> Result<(), Failed>
+    ensures ok { OnOk result (Adds (K.taken sink.old) page.old.items (K.taken sink.new) page.new.items (position_text position)) }
+    ensures front { AddsFront (K.taken sink.old) page.old.items (K.taken sink.new) (position_text position) }
     ensures cause { HasCause (K.faults sink.old) (K.faults sink.new) result }
 {
     match position {
-        Some(position) => put_number(sink, position),
-        None => put(sink, b"-"),
+        Some(position) => put_number(sink, page, position),
+        None => put(sink, page, b"-"),
     }
 }
 
-#[tactic(auto, using(cfs_io::proofs::Written::writing), unfolding(crate::specs::Pieces::lettered))]
-fn put_lettered<K: Sink>(sink: &mut K, letter: &[u8], number: u64) -> Result<(), Failed>
-    ensures ok { OnOk result (Appends (K.taken sink.old) (K.taken sink.new) (lettered letter.now number)) }
-    ensures front { AppendsFront (K.taken sink.old) (K.taken sink.new) (lettered letter.now number) }
+#[tactic(auto, using(crate::proofs::Passed::passing), unfolding(crate::specs::Pieces::lettered))]
+fn put_lettered<K: Sink>(
+    sink: &mut K,
+    page: &mut Page,
+    letter: &[u8],
+    number: u64,
+) -> Result<(), Failed>
+    ensures ok { OnOk result (Adds (K.taken sink.old) page.old.items (K.taken sink.new) page.new.items (lettered letter.now number)) }
+    ensures front { AddsFront (K.taken sink.old) page.old.items (K.taken sink.new) (lettered letter.now number) }
     ensures cause { HasCause (K.faults sink.old) (K.faults sink.new) result }
 {
-    put(sink, letter)?;
-    put_number(sink, number)
+    put(sink, page, letter)?;
+    put_number(sink, page, number)
 }
 
-#[tactic(auto, using(cfs_io::proofs::Written::writing), unfolding(crate::specs::Pieces::node_text))]
-fn put_node<K: Sink>(sink: &mut K, node: Option<Node>) -> Result<(), Failed>
-    ensures ok { OnOk result (Appends (K.taken sink.old) (K.taken sink.new) (node_text node)) }
-    ensures front { AppendsFront (K.taken sink.old) (K.taken sink.new) (node_text node) }
+#[tactic(auto, using(crate::proofs::Passed::passing), unfolding(crate::specs::Pieces::node_text))]
+fn put_node<K: Sink>(sink: &mut K, page: &mut Page, node: Option<Node>) -> Result<(), Failed>
+    ensures ok { OnOk result (Adds (K.taken sink.old) page.old.items (K.taken sink.new) page.new.items (node_text node)) }
+    ensures front { AddsFront (K.taken sink.old) page.old.items (K.taken sink.new) (node_text node) }
     ensures cause { HasCause (K.faults sink.old) (K.faults sink.new) result }
 {
     match node {
-        None => put(sink, b"-"),
-        Some(Node::Dir(DirId(dir))) => put_lettered(sink, b"d", dir),
-        Some(Node::File(FileId(file))) => put_lettered(sink, b"f", file),
+        None => put(sink, page, b"-"),
+        Some(Node::Dir(DirId(dir))) => put_lettered(sink, page, b"d", dir),
+        Some(Node::File(FileId(file))) => put_lettered(sink, page, b"f", file),
     }
 }
 
-#[tactic(auto, using(cfs_io::proofs::Written::writing))]
-fn put_piece<K: Sink>(sink: &mut K, piece: Piece) -> Result<(), Failed>
-    ensures ok { OnOk result (Appends (K.taken sink.old) (K.taken sink.new) (piece_text piece.entry)) }
-    ensures front { AppendsFront (K.taken sink.old) (K.taken sink.new) (piece_text piece.entry) }
+#[tactic(auto, using(crate::proofs::Passed::passing))]
+fn put_piece<K: Sink>(sink: &mut K, page: &mut Page, piece: Piece) -> Result<(), Failed>
+    ensures ok { OnOk result (Adds (K.taken sink.old) page.old.items (K.taken sink.new) page.new.items (piece_text piece.entry)) }
+    ensures front { AddsFront (K.taken sink.old) page.old.items (K.taken sink.new) (piece_text piece.entry) }
     ensures cause { HasCause (K.faults sink.old) (K.faults sink.new) result }
 {
     match piece {
-        Piece::Text(bytes) => put(sink, bytes),
-        Piece::Number(number) => put_number(sink, number),
-        Piece::Position(position) => put_position(sink, position),
-        Piece::Node(node) => put_node(sink, node),
+        Piece::Text(bytes) => put(sink, page, bytes),
+        Piece::Number(number) => put_number(sink, page, number),
+        Piece::Position(position) => put_position(sink, page, position),
+        Piece::Node(node) => put_node(sink, page, node),
     }
 }
 
 /// Writes the pieces one after another. After `Failed` a front of their text was taken.
-#[tactic(auto, using(cfs_io::proofs::Written::writing))]
-pub(crate) fn put_all<K: Sink>(sink: &mut K, pieces: &[Piece]) -> Result<(), Failed>
-    ensures ok { OnOk result (Appends (K.taken sink.old) (K.taken sink.new) (flat_map piece_text pieces.now)) }
-    ensures front { AppendsFront (K.taken sink.old) (K.taken sink.new) (flat_map piece_text pieces.now) }
+#[tactic(auto, using(crate::proofs::Passed::passing))]
+pub(crate) fn put_all<K: Sink>(
+    sink: &mut K,
+    page: &mut Page,
+    pieces: &[Piece],
+) -> Result<(), Failed>
+    ensures ok { OnOk result (Adds (K.taken sink.old) page.old.items (K.taken sink.new) page.new.items (flat_map piece_text pieces.now)) }
+    ensures front { AddsFront (K.taken sink.old) page.old.items (K.taken sink.new) (flat_map piece_text pieces.now) }
     ensures cause { HasCause (K.faults sink.old) (K.faults sink.new) result }
 {
     for piece in pieces {
-        put_piece(sink, *piece)?;
+        put_piece(sink, page, *piece)?;
     }
     Ok(())
 }

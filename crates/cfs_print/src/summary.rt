@@ -1,18 +1,17 @@
 //! The first lines and the last.
 ghost use Rattle.std.specs.Prelude.{OnOk};
-ghost use Rattle.std.specs.Io.KnownBytes.{Appends};
 ghost use Rattle.cfs_io.specs.Causes.{HasCause};
-ghost use Rattle.cfs_io.specs.Output.{AppendsFront};
+ghost use Rattle.cfs_print.specs.Passing.{Adds, AddsFront};
 ghost use Rattle.cfs_print.specs.Summaries.{head_lines, run_counts, left_counts, summary_line};
 
-use crate::output::{Piece, put_all};
+use crate::output::{Page, Piece, put_all};
 use Piece::{Number, Text};
 use cfs_io::{Failed, Sink};
 
 /// The counts of a run: its steps, its calls, of these the unfinished and the busy ones, what was forgotten, and what
 /// it left behind: owed files, debts, marks and strays.
 #[derive(Clone, Copy, Debug, PartialEq, Eq)]
-pub struct Summary {
+pub(crate) struct Summary {
     pub steps: u64,
     pub calls: u64,
     pub unfinished: u64,
@@ -25,16 +24,22 @@ pub struct Summary {
 }
 
 /// Writes the name of the format and the counts of places. After `Failed` a front of it was taken.
-#[tactic(auto, using(cfs_io::proofs::Written::writing), unfolding(crate::specs::Summaries::head_lines))]
-pub fn put_head<K: Sink>(sink: &mut K, shards: u32, stores: u32) -> Result<(), Failed>
-    ensures ok { OnOk result (Appends (K.taken sink.old) (K.taken sink.new) (head_lines shards stores)) }
-    ensures front { AppendsFront (K.taken sink.old) (K.taken sink.new) (head_lines shards stores) }
+#[tactic(auto, using(crate::proofs::Passed::passing), unfolding(crate::specs::Summaries::head_lines))]
+pub(crate) fn put_head<K: Sink>(
+    sink: &mut K,
+    page: &mut Page,
+    shards: u32,
+    stores: u32,
+) -> Result<(), Failed>
+    ensures ok { OnOk result (Adds (K.taken sink.old) page.old.items (K.taken sink.new) page.new.items (head_lines shards stores)) }
+    ensures front { AddsFront (K.taken sink.old) page.old.items (K.taken sink.new) (head_lines shards stores) }
     ensures cause { HasCause (K.faults sink.old) (K.faults sink.new) result }
 {
     let shards = shards as u64;
     let stores = stores as u64;
     put_all(
         sink,
+        page,
         &[
             Text(b"cfs 1\nplaces "),
             Number(shards),
@@ -45,14 +50,15 @@ pub fn put_head<K: Sink>(sink: &mut K, shards: u32, stores: u32) -> Result<(), F
     )
 }
 
-#[tactic(auto, using(cfs_io::proofs::Written::writing), unfolding(crate::specs::Summaries::run_counts))]
-fn put_run_counts<K: Sink>(sink: &mut K, summary: &Summary) -> Result<(), Failed>
-    ensures ok { OnOk result (Appends (K.taken sink.old) (K.taken sink.new) (run_counts summary.now)) }
-    ensures front { AppendsFront (K.taken sink.old) (K.taken sink.new) (run_counts summary.now) }
+#[tactic(auto, using(crate::proofs::Passed::passing), unfolding(crate::specs::Summaries::run_counts))]
+fn put_run_counts<K: Sink>(sink: &mut K, page: &mut Page, summary: &Summary) -> Result<(), Failed>
+    ensures ok { OnOk result (Adds (K.taken sink.old) page.old.items (K.taken sink.new) page.new.items (run_counts summary.now)) }
+    ensures front { AddsFront (K.taken sink.old) page.old.items (K.taken sink.new) (run_counts summary.now) }
     ensures cause { HasCause (K.faults sink.old) (K.faults sink.new) result }
 {
     put_all(
         sink,
+        page,
         &[
             Text(b"s steps="),
             Number(summary.steps),
@@ -66,14 +72,15 @@ fn put_run_counts<K: Sink>(sink: &mut K, summary: &Summary) -> Result<(), Failed
     )
 }
 
-#[tactic(auto, using(cfs_io::proofs::Written::writing), unfolding(crate::specs::Summaries::left_counts))]
-fn put_left_counts<K: Sink>(sink: &mut K, summary: &Summary) -> Result<(), Failed>
-    ensures ok { OnOk result (Appends (K.taken sink.old) (K.taken sink.new) (left_counts summary.now)) }
-    ensures front { AppendsFront (K.taken sink.old) (K.taken sink.new) (left_counts summary.now) }
+#[tactic(auto, using(crate::proofs::Passed::passing), unfolding(crate::specs::Summaries::left_counts))]
+fn put_left_counts<K: Sink>(sink: &mut K, page: &mut Page, summary: &Summary) -> Result<(), Failed>
+    ensures ok { OnOk result (Adds (K.taken sink.old) page.old.items (K.taken sink.new) page.new.items (left_counts summary.now)) }
+    ensures front { AddsFront (K.taken sink.old) page.old.items (K.taken sink.new) (left_counts summary.now) }
     ensures cause { HasCause (K.faults sink.old) (K.faults sink.new) result }
 {
     put_all(
         sink,
+        page,
         &[
             Text(b" forgets="),
             Number(summary.forgets),
@@ -91,12 +98,16 @@ fn put_left_counts<K: Sink>(sink: &mut K, summary: &Summary) -> Result<(), Faile
 }
 
 /// Writes the last line. After `Failed` a front of it was taken.
-#[tactic(auto, using(cfs_io::proofs::Written::writing), unfolding(crate::specs::Summaries::summary_line))]
-pub fn put_summary<K: Sink>(sink: &mut K, summary: &Summary) -> Result<(), Failed>
-    ensures ok { OnOk result (Appends (K.taken sink.old) (K.taken sink.new) (summary_line summary.now)) }
-    ensures front { AppendsFront (K.taken sink.old) (K.taken sink.new) (summary_line summary.now) }
+#[tactic(auto, using(crate::proofs::Passed::passing), unfolding(crate::specs::Summaries::summary_line))]
+pub(crate) fn put_summary<K: Sink>(
+    sink: &mut K,
+    page: &mut Page,
+    summary: &Summary,
+) -> Result<(), Failed>
+    ensures ok { OnOk result (Adds (K.taken sink.old) page.old.items (K.taken sink.new) page.new.items (summary_line summary.now)) }
+    ensures front { AddsFront (K.taken sink.old) page.old.items (K.taken sink.new) (summary_line summary.now) }
     ensures cause { HasCause (K.faults sink.old) (K.faults sink.new) result }
 {
-    put_run_counts(sink, summary)?;
-    put_left_counts(sink, summary)
+    put_run_counts(sink, page, summary)?;
+    put_left_counts(sink, page, summary)
 }

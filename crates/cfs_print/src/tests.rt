@@ -1,8 +1,5 @@
 //! A text with each kind of line, and whole texts.
-use crate::{
-    CommandReply, NamedFiles, Printed, ReplyTable, Summary, put_commands, put_head, put_history,
-    put_summary, write_run,
-};
+use crate::{CommandReply, NamedFiles, Printed, ReplyTable, write_run};
 use cfs_history::{History, HistoryItem, Line, Outcome};
 use cfs_ids::{Call, Client, DirId, Errno, FileId, Name, Node, Reply, RowList};
 use cfs_io::MemSink;
@@ -70,68 +67,61 @@ fn create(alloc: Global) -> Result<Call, Fail> {
     })
 }
 
-fn lines(alloc: Global) -> Result<History, Fail> {
-    let mut history = History::new(alloc);
+fn add_answered(history: &mut History, alloc: Global, reply: Reply) -> Result<(), Fail> {
+    let call = lookup(alloc)?;
+    add(history, call, Some(3), Some(3), Outcome::Reply(reply))
+}
+
+fn add_list(history: &mut History, alloc: Global) -> Result<(), Fail> {
+    let rows = Outcome::Reply(one_row(alloc)?);
+    add(
+        history,
+        Call::List { dir: DirId(0) },
+        Some(4),
+        Some(4),
+        rows,
+    )
+}
+
+fn add_created(
+    history: &mut History,
+    alloc: Global,
+    at: Option<u64>,
+    last: Option<u64>,
+    outcome: Outcome,
+) -> Result<(), Fail> {
+    let call = create(alloc)?;
+    add(history, call, at, last, outcome)
+}
+
+fn add_lines(history: &mut History, alloc: Global) -> Result<(), Fail> {
     let moved = Outcome::Moved {
         ts: 1,
         made: Some(FILE),
     };
-    add(&mut history, create(alloc)?, Some(1), Some(2), moved)?;
-    let found = Outcome::Reply(Reply::Node(Node::Dir(DirId(65))));
-    add(&mut history, lookup(alloc)?, Some(3), Some(3), found)?;
-    let refused = Outcome::Reply(Reply::Refused(Errno::Enoent));
-    add(&mut history, lookup(alloc)?, Some(3), Some(3), refused)?;
-    let list = Call::List { dir: DirId(0) };
-    let rows = Outcome::Reply(one_row(alloc)?);
-    add(&mut history, list, Some(4), Some(4), rows)?;
-    let unfinished = Outcome::Unfinished(Some((7, Some(FILE))));
-    add(&mut history, create(alloc)?, Some(5), None, unfinished)?;
-    add(
-        &mut history,
-        create(alloc)?,
-        None,
-        None,
-        Outcome::Unfinished(None),
-    )?;
-    Ok(history)
+    add_created(history, alloc, Some(1), Some(2), moved)?;
+    add_answered(history, alloc, Reply::Node(Node::Dir(DirId(65))))?;
+    add_answered(history, alloc, Reply::Refused(Errno::Enoent))?;
+    add_list(history, alloc)?;
+    let found = Outcome::Unfinished(Some((7, Some(FILE))));
+    add_created(history, alloc, Some(5), None, found)?;
+    add_created(history, alloc, None, None, Outcome::Unfinished(None))
 }
 
-#[test]
-fn each_kind_of_line(rt: HostRuntime) -> Result<(), Fail> {
-    let alloc = rt.alloc();
-    let mut sink = MemSink::new(alloc, 1000, 7, Vec::new(alloc)).map_err(|_| Fail::Memory)?;
-    let commands = [
-        said(1, Some(Reply::Moved)),
-        said(2, Some(Reply::Node(FILE))),
-        said(3, Some(one_row(alloc)?)),
-        said(4, Some(Reply::Refused(Errno::Eexist))),
-        said(5, None),
+fn add_replies(table: &mut ReplyTable, alloc: Global) -> Result<(), Fail> {
+    let rows = one_row(alloc)?;
+    let replies = [
+        Some(Reply::Moved),
+        Some(Reply::Node(FILE)),
+        Some(rows),
+        Some(Reply::Refused(Errno::Eexist)),
+        None,
     ];
-    let summary = Summary {
-        steps: 6,
-        calls: 6,
-        unfinished: 2,
-        busy: 0,
-        forgets: 0,
-        owed: 1,
-        debts: 0,
-        marks: 0,
-        strays: 0,
-    };
-    put_head(&mut sink, 1, 64).map_err(|_| Fail::Sink)?;
-    put_commands(&mut sink, &commands).map_err(|_| Fail::Sink)?;
-    put_history(&mut sink, lines(alloc)?.as_slice()).map_err(|_| Fail::Sink)?;
-    put_summary(&mut sink, &summary).map_err(|_| Fail::Sink)?;
-    let text = "cfs 1\nplaces 1 64\n\
-        c 1 1 OK\nc 1 2 NODE f64\nc 1 3 LIST 1\nc 1 4 EEXIST\nc 1 5 -\n\
-        l 2 0 1 2 create 0 x = ok 1 f64\n\
-        l 2 0 3 3 lookup 0 x = node d65\n\
-        l 2 0 3 3 lookup 0 x = ENOENT\n\
-        l 2 0 4 4 list 0 = rows 1\nr x f64\n\
-        l 2 0 5 - create 0 x = unfinished 7 f64\n\
-        l 2 0 - - create 0 x = unfinished - -\n\
-        s steps=6 calls=6 unfinished=2 busy=0 forgets=0 owed=1 debts=0 marks=0 strays=0\n";
-    assert_eq!(rt; sink.bytes(), text.as_bytes());
+    let mut number = 0;
+    for reply in replies {
+        number += 1;
+        table.push(said(number, reply)).map_err(|_| Fail::Memory)?;
+    }
     Ok(())
 }
 
@@ -186,18 +176,15 @@ fn two_files(alloc: Global) -> Result<Namespace, Fail> {
 }
 
 #[test]
-fn a_tree(rt: HostRuntime) -> Result<(), Fail> {
+fn each_kind_of_line(rt: HostRuntime) -> Result<(), Fail> {
     let alloc = rt.alloc();
     let mut sink = MemSink::new(alloc, 1000, 7, Vec::new(alloc)).map_err(|_| Fail::Memory)?;
     let mut printed = printed(alloc, two_files(alloc)?);
-    printed.history = lines(alloc)?;
-    printed
-        .replies
-        .push(said(1, Some(Reply::Moved)))
-        .map_err(|_| Fail::Memory)?;
+    add_replies(&mut printed.replies, alloc)?;
+    add_lines(&mut printed.history, alloc)?;
     let named = NamedFiles::of(alloc, &printed.tree).map_err(|_| Fail::Memory)?;
     write_run(&printed, &named, &mut sink).map_err(|_| Fail::Sink)?;
-    let text = "cfs 1\nplaces 1 1\nc 1 1 OK\n\
+    let text = "cfs 1\nplaces 1 1\nc 1 1 OK\nc 1 2 NODE f64\nc 1 3 LIST 1\nc 1 4 EEXIST\nc 1 5 -\n\
         l 2 0 1 2 create 0 x = ok 1 f64\n\
         l 2 0 3 3 lookup 0 x = node d65\n\
         l 2 0 3 3 lookup 0 x = ENOENT\n\

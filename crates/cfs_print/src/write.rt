@@ -1,15 +1,17 @@
 //! The whole text.
 ghost use Rattle.std.specs.Prelude.{OnOk, ◌≡◌};
-ghost use Rattle.std.specs.Io.KnownBytes.{Appends};
 ghost use Rattle.cfs_ids.specs.Maps.{how_many};
+ghost use Rattle.std.specs.Io.KnownBytes.{Appends};
 ghost use Rattle.cfs_io.specs.Causes.{HasCause};
 ghost use Rattle.cfs_io.specs.Output.{AppendsFront};
+ghost use Rattle.cfs_print.specs.Passing.{Adds, AddsFront};
 ghost use Rattle.cfs_print.specs.NamedFiles.{AreNamed};
 ghost use Rattle.cfs_print.specs.Texts.{is_call, is_unfinished, summary_of, run_lines, namespace_lines, text};
 
 use crate::commands::put_commands;
 use crate::lines::put_history;
 use crate::named::NamedFiles;
+use crate::output::{Page, turn_page};
 use crate::printed::Printed;
 use crate::summary::{Summary, put_head, put_summary};
 use crate::tree::{put_tree, put_unnamed};
@@ -67,38 +69,60 @@ fn summary_of(printed: &Printed) -> Summary
     }
 }
 
-#[tactic(auto, using(cfs_io::proofs::Written::writing), unfolding(crate::specs::Texts::run_lines))]
-fn put_run<K: Sink>(printed: &Printed, sink: &mut K) -> Result<(), Failed>
-    ensures ok { OnOk result (Appends (K.taken sink.old) (K.taken sink.new) (run_lines printed.now)) }
-    ensures front { AppendsFront (K.taken sink.old) (K.taken sink.new) (run_lines printed.now) }
+#[tactic(auto, using(crate::proofs::Passed::passing), unfolding(crate::specs::Texts::run_lines))]
+fn put_run<K: Sink>(printed: &Printed, sink: &mut K, page: &mut Page) -> Result<(), Failed>
+    ensures ok { OnOk result (Adds (K.taken sink.old) page.old.items (K.taken sink.new) page.new.items (run_lines printed.now)) }
+    ensures front { AddsFront (K.taken sink.old) page.old.items (K.taken sink.new) (run_lines printed.now) }
     ensures cause { HasCause (K.faults sink.old) (K.faults sink.new) result }
 {
-    put_commands(sink, printed.replies.as_slice())?;
-    put_history(sink, printed.history.as_slice())
+    put_commands(sink, page, printed.replies.as_slice())?;
+    put_history(sink, page, printed.history.as_slice())
 }
 
-#[tactic(auto, using(cfs_io::proofs::Written::writing), unfolding(crate::specs::Texts::namespace_lines))]
-fn put_namespace<K: Sink>(printed: &Printed, named: &NamedFiles, sink: &mut K) -> Result<(), Failed>
+#[tactic(auto, using(crate::proofs::Passed::passing), unfolding(crate::specs::Texts::namespace_lines))]
+fn put_namespace<K: Sink>(
+    printed: &Printed,
+    named: &NamedFiles,
+    sink: &mut K,
+    page: &mut Page,
+) -> Result<(), Failed>
     requires { AreNamed named.now printed.now.tree }
-    ensures ok { OnOk result (Appends (K.taken sink.old) (K.taken sink.new) (namespace_lines printed.now)) }
-    ensures front { AppendsFront (K.taken sink.old) (K.taken sink.new) (namespace_lines printed.now) }
+    ensures ok { OnOk result (Adds (K.taken sink.old) page.old.items (K.taken sink.new) page.new.items (namespace_lines printed.now)) }
+    ensures front { AddsFront (K.taken sink.old) page.old.items (K.taken sink.new) (namespace_lines printed.now) }
     ensures cause { HasCause (K.faults sink.old) (K.faults sink.new) result }
 {
-    put_tree(sink, &printed.tree)?;
-    put_unnamed(sink, &printed.tree, named)
+    put_tree(sink, page, &printed.tree)?;
+    put_unnamed(sink, page, &printed.tree, named)
+}
+
+#[tactic(auto, using(crate::proofs::Passed::passing), unfolding(crate::specs::Texts::text))]
+fn put_text<K: Sink>(
+    printed: &Printed,
+    named: &NamedFiles,
+    sink: &mut K,
+    page: &mut Page,
+) -> Result<(), Failed>
+    requires { AreNamed named.now printed.now.tree }
+    ensures ok { OnOk result (Adds (K.taken sink.old) page.old.items (K.taken sink.new) page.new.items (text printed.now)) }
+    ensures front { AddsFront (K.taken sink.old) page.old.items (K.taken sink.new) (text printed.now) }
+    ensures cause { HasCause (K.faults sink.old) (K.faults sink.new) result }
+{
+    put_head(sink, page, printed.shards, printed.stores)?;
+    put_run(printed, sink, page)?;
+    put_namespace(printed, named, sink, page)?;
+    put_summary(sink, page, &summary_of(printed))
 }
 
 /// Writes the text of the run; `named` are the files that the tree's lists name. After `Failed` a front of the text was
-/// taken. It takes no memory.
-#[tactic(auto, using(cfs_io::proofs::Written::writing), unfolding(crate::specs::Texts::text))]
+/// taken. It takes no memory, and asks the sink once for some 4,096 bytes.
+#[tactic(auto, using(crate::proofs::Passed::handing))]
 pub fn write_run<K: Sink>(printed: &Printed, named: &NamedFiles, sink: &mut K) -> Result<(), Failed>
     requires { AreNamed named.now printed.now.tree }
     ensures ok { OnOk result (Appends (K.taken sink.old) (K.taken sink.new) (text printed.now)) }
     ensures front { AppendsFront (K.taken sink.old) (K.taken sink.new) (text printed.now) }
     ensures cause { HasCause (K.faults sink.old) (K.faults sink.new) result }
 {
-    put_head(sink, printed.shards, printed.stores)?;
-    put_run(printed, sink)?;
-    put_namespace(printed, named, sink)?;
-    put_summary(sink, &summary_of(printed))
+    let mut page = Page::new();
+    put_text(printed, named, sink, &mut page)?;
+    turn_page(sink, &mut page)
 }

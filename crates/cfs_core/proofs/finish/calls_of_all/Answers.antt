@@ -3,7 +3,7 @@ use Rattle.cfs_actor.specs.declared.client_state.ClientState.{ClientState}
 use Rattle.cfs_actor.specs.Clients.{client_of, progress_of}
 use Rattle.cfs_ids.specs.declared.ids.Client.{Client}
 use Rattle.cfs_rules.specs.Worlds.{Progress, calls_of}
-use Rattle.cfs_core.proofs.Shown.{shown-set, shown-at, shown-length, calls_in-more}
+use Rattle.cfs_core.proofs.Shown.{shown-set, shown-at, shown-length, calls_of_states-more}
 use Rattle.cfs_core.proofs.finish.calls_of_all.Goals as goal
 
 -- the state shows what the one that stood there did
@@ -36,5 +36,5 @@ loop-i-preserved c = let old = c.index_mut-state.result.now in let is = c.index_
     record {
       same = shown-set c.loop-i.clients.items c.loop-i.i c.settle.new.self old (kept_client old c.loop-i.clients.items c.loop-i.i old c.settle.new.self is c.settle.ensures.client) (kept_progress old c.loop-i.clients.items c.loop-i.i old c.settle.new.self is c.settle.ensures.progress) ∙ c.loop-i.invariant.same;
       so_far = c.in_ok-push.ensures.items ∙ (λ j. c.loop-i.invariant.so_far j ++ calls j ∷ [])
-          ∙ sym (calls_in-more c.args.clients.now.items c.loop-i.i old (rw same_length at within));
+          ∙ sym (calls_of_states-more c.args.clients.now.items c.loop-i.i old (rw same_length at within));
     }

@@ -1,10 +1,10 @@
 use Rattle.std.proofs.Common.{◌≡◌, map, take}
-use Rattle.cfs_core.specs.Ends.{calls_in}
+use Rattle.cfs_core.specs.Ends.{calls_of_states}
 use Rattle.cfs_core.specs.Opening.{shown}
 use Rattle.cfs_core.proofs.finish.calls_of_all.Given as goal
 
 abbrev pub invariant-loop-i : goal.invariant-loop-i
 invariant-loop-i l = record {
   same : map shown l.clients.items ≡ map shown l.fn.clients.items;
-  so_far : l.calls.items ≡ calls_in (take l.i l.fn.clients.items);
+  so_far : l.calls.items ≡ calls_of_states (take l.i l.fn.clients.items);
 }

@@ -16,7 +16,7 @@ use Rattle.cfs_core.specs.Weave.{world_from}
 use Rattle.cfs_core.proofs.States.{members_of-set, no-index}
 use Rattle.cfs_core.proofs.Turns.{stepped-world, same-clients}
 use Rattle.cfs_core.proofs.Among.{stepped-counted, was-progress, was-client}
-use Rattle.cfs_core.proofs.Counting.{full-log, many-steps}
+use Rattle.cfs_core.proofs.Counting.{full-log, many-steps, log-room}
 use Rattle.cfs_core.proofs.turning.turn_among.Goals as goal
 
 pub unreachable-requires : goal.unreachable-requires
@@ -50,6 +50,16 @@ returns-clause-full c = λ place e.
       full.2,
       full-log (reverse c.args.order.now.items) (held c.args.places.now) (progress_in c.args.clients.now.items) (progress_of c.index_mut-state.result.now) c.args.client.0 full.0 was c.requires.counted full.3,
     )
+
+pub returns-clause-room : goal.returns-clause-room
+returns-clause-room c = λ e ask next.
+    let at = rw c.deref.ensures.value at (sym c.in-Some.ensures) in
+    let is = c.index_mut-state.ensures.value in
+    let was : progress_in c.args.clients.now.items c.args.client.0 ≡ progress_of c.index_mut-state.result.now = was-progress c.args.clients.now.items c.in-Some.at c.index_mut-state.result.now c.args.client at is in
+    let whose : client_of c.index_mut-state.result.now ≡ c.args.client = was-client c.args.clients.now.items c.in-Some.at c.index_mut-state.result.now c.args.client at is in
+    log-room (client_of c.index_mut-state.result.now) (held c.args.places.now) (progress_of c.index_mut-state.result.now) ask
+    (next ∙ ap (λ (k : Client). next_ask k (progress_in c.args.clients.now.items c.args.client.0)) (sym whose) ∙ ap (λ (p : Progress). next_ask (client_of c.index_mut-state.result.now) p) was)
+    (c.turn_client.ensures.room e)
 
 pub returns-clause-many : goal.returns-clause-many
 returns-clause-many c = λ place e.

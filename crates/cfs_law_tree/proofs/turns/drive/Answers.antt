@@ -1,11 +1,11 @@
-use Rattle.std.proofs.Common.{◌≡◌, map, take, ap, sym, ◌∙◌, arith, get_or, ◌<◌, length, Ok, inl, inr}
+use Rattle.std.proofs.Common.{◌≡◌, map, take, ap, sym, ◌∙◌, arith, get_or, ◌<◌, length, Ok, inl, inr, subst}
 use Rattle.cfs_ids.specs.declared.ids.Actor.TheVariants.{Client as ClientTurn}
 use Rattle.cfs_rules.specs.Worlds.{World, turn}
 use Rattle.cfs_core.specs.Clients.{number_in}
 use Rattle.cfs_core.specs.declared.turned.Turned.TheVariants.{Idle, Stepped}
 use Rattle.cfs_core.specs.Cores.{world_of, members_of}
-use Rattle.cfs_law_tree.specs.Drives.{is_turn_of}
-use Rattle.cfs_law_tree.proofs.Runs.{true-at, is-member, run-more, stops, idle-turn, counts-at, attributes-at}
+use Rattle.cfs_law_tree.specs.Drives.{is_turn_of, StopsFull}
+use Rattle.cfs_law_tree.proofs.Runs.{true-at, is-member, run-more, stops, stops-full, same-place, idle-turn, counts-at, attributes-at}
 use Rattle.cfs_law_tree.proofs.turns.drive.Goals as goal
 
 pub turn-requires : goal.turn-requires
@@ -13,7 +13,7 @@ turn-requires c = is-member c.loop-actor.core.clients.items (members_of c.args.c
     (true-at (is_turn_of (members_of c.args.core.now)) c.as_slice-actor-items.result.now c.loop-actor.actor-index (ClientTurn (record { 0 = 0 })) (omega (arith, c.loop-actor-test.true)) (rw (sym c.as_slice-actor-items.ensures) at c.requires))
 
 pub returns-in_err-turn-clause-stopped : goal.returns-in_err-turn-clause-stopped
-returns-in_err-turn-clause-stopped c = λ n. stops c.args.turns.now c.loop-actor.actor-index (world_of c.args.core.now) (world_of c.turn.new.self) (c.in_err-turn.ensures.same (λ e. cc) ∙ c.loop-actor.invariant.so_far)
+returns-in_err-turn-clause-stopped c = λ n. stops c.args.turns.now c.loop-actor.actor-index (world_of c.args.core.now) (world_of c.turn.new.self) (rw c.as_slice-actor-items.ensures at c.loop-actor-test.true) (c.in_err-turn.ensures.same (λ e. cc) ∙ c.loop-actor.invariant.so_far)
 
 pub returns-in_err-turn-clause-counts : goal.returns-in_err-turn-clause-counts
 returns-in_err-turn-clause-counts c = λ calls before e n. counts-at calls before (take n (map number_in c.args.turns.now)) (world_of c.args.core.now) e
@@ -22,7 +22,15 @@ pub returns-in_err-turn-clause-attributes : goal.returns-in_err-turn-clause-attr
 returns-in_err-turn-clause-attributes c = λ calls before e n. attributes-at calls before (take n (map number_in c.args.turns.now)) (world_of c.args.core.now) e
 
 pub returns-in-Full-clause-stopped : goal.returns-in-Full-clause-stopped
-returns-in-Full-clause-stopped c = λ n. stops c.args.turns.now c.loop-actor.actor-index (world_of c.args.core.now) (world_of c.turn.new.self) (c.in_ok-turn.ensures.same (λ e. cc) ∙ c.loop-actor.invariant.so_far)
+returns-in-Full-clause-stopped c = λ n. stops c.args.turns.now c.loop-actor.actor-index (world_of c.args.core.now) (world_of c.turn.new.self) (rw c.as_slice-actor-items.ensures at c.loop-actor-test.true) (c.in_ok-turn.ensures.same (λ e. cc) ∙ c.loop-actor.invariant.so_far)
+
+pub returns-in-Full-clause-full : goal.returns-in-Full-clause-full
+returns-in-Full-clause-full c = λ place e.
+    let within : c.loop-actor.actor-index < length c.args.turns.now = rw c.as_slice-actor-items.ensures at c.loop-actor-test.true in
+    let asks = rw c.as_slice-actor-items.ensures at (c.in_ok-turn.ensures.full c.in-Full.place (ap Ok c.in-Full.is)) in
+    subst (StopsFull c.args.turns.now (world_of c.args.core.now) c.turn.new.self) (same-place c.in-Full.place place e)
+    (stops-full c.args.turns.now c.loop-actor.actor-index (ClientTurn (record { 0 = 0 })) (world_of c.args.core.now) c.loop-actor.core c.turn.new.self c.in-Full.place within
+    (c.in_ok-turn.ensures.same (λ e. cc) ∙ c.loop-actor.invariant.so_far) (c.in_ok-turn.ensures.same (λ e. cc)) (c.in_ok-turn.ensures.same_held (λ e. cc)) asks)
 
 pub returns-in-Full-clause-counts : goal.returns-in-Full-clause-counts
 returns-in-Full-clause-counts c = λ calls before e n. counts-at calls before (take n (map number_in c.args.turns.now)) (world_of c.args.core.now) e

@@ -1,11 +1,11 @@
 use Rattle.std.proofs.Common.{◌≤◌, take}
 use Rattle.std.specs.List.{flat_map}
-use Rattle.std.specs.Io.KnownBytes.{Appends}
+use Rattle.cfs_print.specs.Passing.{Adds}
 use Rattle.cfs_print.specs.Lines.{item_text}
 use Rattle.cfs_print.proofs.lines.put_history.Given as goal
 
 abbrev pub invariant-loop-item : goal.invariant-loop-item
 invariant-loop-item g l = record {
-  written : Appends (g.K.Sink.taken l.fn.sink) (g.K.Sink.taken l.sink) (flat_map item_text (take l.item-index l.items));
+  written : Adds (g.K.Sink.taken l.fn.sink) l.fn.page.items (g.K.Sink.taken l.sink) l.page.items (flat_map item_text (take l.item-index l.items));
   later : g.K.Sink.faults l.fn.sink ≤ g.K.Sink.faults l.sink;
 }

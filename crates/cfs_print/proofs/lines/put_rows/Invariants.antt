@@ -1,11 +1,11 @@
 use Rattle.std.proofs.Common.{◌≤◌, take}
 use Rattle.std.specs.List.{flat_map}
-use Rattle.std.specs.Io.KnownBytes.{Appends}
+use Rattle.cfs_print.specs.Passing.{Adds}
 use Rattle.cfs_print.specs.Lines.{row_line}
 use Rattle.cfs_print.proofs.lines.put_rows.Given as goal
 
 abbrev pub invariant-loop-row : goal.invariant-loop-row
 invariant-loop-row g l = record {
-  written : Appends (g.K.Sink.taken l.fn.sink) (g.K.Sink.taken l.sink) (flat_map row_line (take l.row-index l.rows));
+  written : Adds (g.K.Sink.taken l.fn.sink) l.fn.page.items (g.K.Sink.taken l.sink) l.page.items (flat_map row_line (take l.row-index l.rows));
   later : g.K.Sink.faults l.fn.sink ≤ g.K.Sink.faults l.sink;
 }

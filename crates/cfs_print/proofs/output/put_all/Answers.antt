@@ -1,8 +1,16 @@
-use Rattle.cfs_io.proofs.Written.{AppendsFront-at}
+use Rattle.std.proofs.Common.{arith}
+use Rattle.cfs_print.proofs.Passed.{Adds-at, AddsFront-at}
 use Rattle.cfs_print.specs.Pieces.{piece_text}
 use Rattle.cfs_print.proofs.output.put_all.Goals as goal
 
--- the pieces before this one and a front of it are a front
+-- one more part
+pub loop-piece-preserved : goal.loop-piece-preserved
+loop-piece-preserved g c = record {
+  written = Adds-at piece_text c.args.pieces.now c.loop-piece.piece-index _ _ _ _ _ _ _ c.loop-piece-test.true c.loop-piece.invariant.written c.in_ok-put_piece.ensures.ok;
+  later = omega (arith, c.loop-piece.invariant.later, c.in_ok-put_piece.ensures.cause.later);
+}
+
+-- the parts before this one and a front of it are a front
 pub returns-in_err-put_piece-clause-front : goal.returns-in_err-put_piece-clause-front
 returns-in_err-put_piece-clause-front g c =
-    AppendsFront-at piece_text c.args.pieces.now c.loop-piece.piece-index _ _ _ _ c.loop-piece-test.true c.loop-piece.invariant.written c.in_err-put_piece.ensures.front
+    AddsFront-at piece_text c.args.pieces.now c.loop-piece.piece-index _ _ _ _ _ _ c.loop-piece-test.true c.loop-piece.invariant.written c.in_err-put_piece.ensures.front

@@ -7,6 +7,6 @@ use Rattle.cfs_print.proofs.tree.put_dirs.Given as goal
 
 abbrev pub invariant-loop-dir : goal.invariant-loop-dir
 invariant-loop-dir g l = record {
-  written : WrittenUpTo (g.K.Sink.taken l.fn.sink) (g.K.Sink.taken l.sink) (flat_map (rows_of l.tree) (entries l.tree.dirs)) (flat_map (rows_of l.tree) l.dir-iterator);
+  written : WrittenUpTo (g.K.Sink.taken l.fn.sink) l.fn.page.items (g.K.Sink.taken l.sink) l.page.items (flat_map (rows_of l.tree) (entries l.tree.dirs)) (flat_map (rows_of l.tree) l.dir-iterator);
   later : g.K.Sink.faults l.fn.sink ≤ g.K.Sink.faults l.sink;
 }

@@ -7,6 +7,6 @@ use Rattle.cfs_print.proofs.tree.put_rows.Given as goal
 
 abbrev pub invariant-loop-name : goal.invariant-loop-name
 invariant-loop-name g l = record {
-  written : WrittenUpTo (g.K.Sink.taken l.fn.sink) (g.K.Sink.taken l.sink) (flat_map (row_line l.tree l.dir) (entries l.directory.names)) (flat_map (row_line l.tree l.dir) l.name-iterator);
+  written : WrittenUpTo (g.K.Sink.taken l.fn.sink) l.fn.page.items (g.K.Sink.taken l.sink) l.page.items (flat_map (row_line l.tree l.dir) (entries l.directory.names)) (flat_map (row_line l.tree l.dir) l.name-iterator);
   later : g.K.Sink.faults l.fn.sink ≤ g.K.Sink.faults l.sink;
 }

@@ -7,6 +7,6 @@ use Rattle.cfs_print.proofs.tree.put_unnamed.Given as goal
 
 abbrev pub invariant-loop-file : goal.invariant-loop-file
 invariant-loop-file g l = record {
-  written : WrittenUpTo (g.K.Sink.taken l.fn.sink) (g.K.Sink.taken l.sink) (flat_map (unnamed_line l.tree) (entries l.tree.files)) (flat_map (unnamed_line l.tree) l.file-iterator);
+  written : WrittenUpTo (g.K.Sink.taken l.fn.sink) l.fn.page.items (g.K.Sink.taken l.sink) l.page.items (flat_map (unnamed_line l.tree) (entries l.tree.files)) (flat_map (unnamed_line l.tree) l.file-iterator);
   later : g.K.Sink.faults l.fn.sink ≤ g.K.Sink.faults l.sink;
 }

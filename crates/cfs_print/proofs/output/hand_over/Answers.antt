@@ -2,7 +2,7 @@ use Rattle.std.proofs.Common.{arith}
 use Rattle.std.proofs.lemmas.List.{take_rest, length-drop}
 use Rattle.std.proofs.Math.Seq.{take-add}
 use Rattle.cfs_io.proofs.Written.{Appends-append, AppendsFront-kept}
-use Rattle.cfs_print.proofs.output.put.Goals as goal
+use Rattle.cfs_print.proofs.output.hand_over.Goals as goal
 
 -- one more front
 pub loop-at-preserved : goal.loop-at-preserved
