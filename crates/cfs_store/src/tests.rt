@@ -79,14 +79,9 @@ fn takes_a_file_back_for_its_owner(rt: HostRuntime) -> Result<(), Fail> {
 #[test]
 fn shows_its_log(rt: HostRuntime) -> Result<(), Fail> {
     let mut store = Store::new(rt.alloc(), 3)?;
-    assert_eq!(rt; (store.count(), store.last()), (0, 0));
-    let _ = store.serve(Actor::Client(Client(2)), 7, &put(Client(2)))?;
-    assert_eq!(rt; (store.count(), store.last()), (1, 8));
-    assert!(rt; store.entry(1).is_none());
-    let Some(entry) = store.entry(0) else {
-        assert!(rt; false, "an entry");
-        return Ok(());
-    };
+    let entry = store.serve(Actor::Client(Client(2)), 7, &put(Client(2)))?;
     assert!(rt; matches!(&entry.answer, Answer::New(Node::File(FileId(515)))));
+    assert_eq!(rt; (store.count(), store.last()), (1, 8));
+    assert!(rt; store.entry(0).is_some() && store.entry(1).is_none());
     Ok(())
 }
