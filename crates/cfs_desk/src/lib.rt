@@ -3,5 +3,7 @@
 
 mod clients;
 mod roster;
+#[cfg(test)]
+mod tests;
 
 pub use roster::Roster;

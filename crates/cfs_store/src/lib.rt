@@ -3,6 +3,8 @@
 
 mod store;
 mod table;
+#[cfg(test)]
+mod tests;
 
 pub use cfs_steps::FileRec;
 pub use store::Store;

@@ -3,6 +3,8 @@
 
 mod listing;
 mod table;
+#[cfg(test)]
+mod tests;
 
 pub use cfs_steps::{DirAttr, DirRec, Row};
 pub use table::Table;
