@@ -1,5 +1,5 @@
 //! How a store serves an ask.
-ghost use Rattle.std.specs.Prelude.{◌≡◌, ◌↔◌, ℕ, ◌<◌, ◌^◌, ◌+◌, ◌++◌, ◌∷◌, [], max, true, IfOk, OnOk, OnErr, Err, length, slice_get};
+ghost use Rattle.std.specs.Prelude.{◌≡◌, ◌↔◌, ℕ, ◌<◌, ◌^◌, ◌+◌, ◌++◌, ◌∷◌, [], max, true, IfOk, IsOk, OnOk, OnErr, Err, length, slice_get};
 ghost use Rattle.std.specs.Option.{option_copied, option_map};
 ghost use Rattle.std.specs.Ordering.{nat_cmp};
 ghost use Rattle.std.specs.FinMap as map;
@@ -29,9 +29,10 @@ pub struct Store {
 impl Store {
     ghost use Rattle.cfs_store.specs.Stores.{contents_of, log_of, last_of, index_of};
 
-    /// The store with this index, below 64, and without a file.
+    /// The store with this index, below 64, and without a file. It takes no memory.
     pub fn new(alloc: Global, index: u32) -> Result<Store, NoMemory>
         requires { index < 64 }
+        ensures sure { IsOk result }
         ensures contents { IfOk result (λ store. contents_of store ≡ map.empty) }
         ensures log { IfOk result (λ store. log_of store ≡ []) }
         ensures last { IfOk result (λ store. last_of store ≡ 0) }
