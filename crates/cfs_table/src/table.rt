@@ -62,8 +62,8 @@ impl Table {
         }
     }
 
-    /// Sets the row at a name of the directory, and answers what stood there. The Err is want of memory: the table is
-    /// as before, and the name and the row come back.
+    /// Sets the row at a name of the directory, and answers what stood there. The Err is want of memory for a new row: the
+    /// table is as before, and the name and the row come back.
     #[tactic(auto, using(crate::proofs::Flattened::flattening))]
     pub fn set_row(&mut self, dir: DirId, name: Name, row: Row) -> Result<Option<Row>, (Name, Row)>
         ensures rows { OnOk result ((contents_of self.new).rows ≡ map.insert (contents_of self.old).rows (row_key dir name) row) }
@@ -71,6 +71,7 @@ impl Table {
         ensures before { IfOk result (λ before. before ≡ map.get (contents_of self.old).rows (row_key dir name)) }
         ensures err { OnErr result (self.new ≡ self.old) }
         ensures back { IfErr result (λ back. back ≡ (name, row)) }
+        ensures there { IsSome (map.get (contents_of self.old).rows (row_key dir name)) → IsOk result }
     {
         self.rows.set_name(self.alloc, dir.0, name, row)
     }
