@@ -1,5 +1,5 @@
 //! How the namespace changes.
-ghost use Rattle.std.specs.Prelude.{◌≡◌, OnOk, OnErr, IsSome, None, not, true, false};
+ghost use Rattle.std.specs.Prelude.{◌≡◌, OnOk, OnErr, IsOk, IsSome, None, not, true, false};
 ghost use Rattle.std.specs.FinMap as map;
 ghost use Rattle.cfs_ids.specs.declared.call.Reply.TheVariants.{Moved};
 ghost use Rattle.cfs_ids.specs.Namespace.{after, created, create_in, with_name, forget, is_listed, IsDefined};
@@ -50,6 +50,7 @@ fn set_time(
 ) -> Result<(), NoMemory>
     ensures ok { OnOk result (dirs.new ≡ map.insert dirs.old dir.0 (timed (map.get dirs.old dir.0) time)) }
     ensures err { OnErr result (dirs.new ≡ dirs.old) }
+    ensures there { IsSome (map.get dirs.old dir.0) → IsOk result }
 {
     if let Some(directory) = dirs.get_mut(dir.0) {
         directory.set_time(time);
@@ -107,19 +108,21 @@ impl Namespace {
         true
     }
 
-    /// Sets the time of the directory, which has no names where it wasn't there. The Err is want of memory, and then
-    /// nothing changed.
+    /// Sets the time of the directory, which has no names where it wasn't there. The Err is want of memory for a new
+    /// directory, and then nothing changed.
     pub fn add_dir(&mut self, alloc: Global, dir: DirId, time: Ts) -> Result<(), NoMemory>
         ensures ok { OnOk result (self.new ≡ with_dir self.old dir time) }
         ensures err { OnErr result (self.new ≡ self.old) }
+        ensures there { IsSome (map.get self.old.dirs dir.0) → IsOk result }
     {
         set_time(alloc, &mut self.dirs, dir, time)
     }
 
-    /// Sets the whole directory. The Err is want of memory, and then nothing changed.
+    /// Sets the whole directory. The Err is want of memory for a new directory, and then nothing changed.
     pub fn set_dir(&mut self, dir: DirId, directory: Directory) -> Result<(), NoMemory>
         ensures ok { OnOk result (self.new ≡ record { dirs = map.insert self.old.dirs dir.0 directory; files = self.old.files }) }
         ensures err { OnErr result (self.new ≡ self.old) }
+        ensures there { IsSome (map.get self.old.dirs dir.0) → IsOk result }
     {
         match self.dirs.set(dir.0, directory) {
             Ok(_) => Ok(()),
@@ -136,10 +139,11 @@ impl Namespace {
         set_name(&mut self.dirs, dir, name, node)
     }
 
-    /// Sets the size and the time of the file. The Err is want of memory, and then nothing changed.
+    /// Sets the size and the time of the file. The Err is want of memory for a new file, and then nothing changed.
     pub fn add_file(&mut self, file: FileId, size: u64, time: Ts) -> Result<(), NoMemory>
         ensures ok { OnOk result (self.new ≡ with_file self.old file size time) }
         ensures err { OnErr result (self.new ≡ self.old) }
+        ensures there { IsSome (map.get self.old.files file.0) → IsOk result }
     {
         match self.files.set(file.0, FileFacts::new(size, time)) {
             Ok(_) => Ok(()),
