@@ -133,12 +133,14 @@ impl ClientState {
         }
     }
 
-    /// Works a kept entry in. On Err it is still kept. A client that has ended keeps none.
+    /// Works a kept entry in. On Err it is still kept. A client that keeps none needs no memory, and one that has ended
+    /// keeps none.
     pub fn settle(&mut self) -> Result<(), NoMemory>
         ensures progress { progress_of self.new ≡ progress_of self.old }
         ensures client { client_of self.new ≡ client_of self.old }
         ensures settled { OnOk result (IsTrue (is_settled self.new)) }
         ensures ended { (progress_of self.old).ended ≡ true → IsOk result }
+        ensures sure { IsTrue (is_settled self.old) → IsOk result }
     {
         let Some(kept) = &self.kept else {
             return Ok(());
