@@ -1,5 +1,5 @@
 //! How the roster serves an ask.
-ghost use Rattle.std.specs.Prelude.{◌≡◌, ◌↔◌, ◌<◌, ◌+◌, ◌++◌, ◌∷◌, [], max, true, IfOk, OnOk, OnErr, Err, length, slice_get};
+ghost use Rattle.std.specs.Prelude.{◌≡◌, ◌↔◌, ◌<◌, ◌+◌, ◌++◌, ◌∷◌, [], max, true, IfOk, IsOk, OnOk, OnErr, Err, length, slice_get};
 ghost use Rattle.std.specs.Option.{option_copied};
 ghost use Rattle.cfs_rules.specs.Places.{serve_roster, entry_by, number_after, is_full};
 ghost use Rattle.cfs_rules.specs.Trees.{has_ended};
@@ -40,8 +40,9 @@ fn change(ended: &mut EnteredClients, ask: &Ask) -> Result<(), NoMemory>
 }
 
 impl Roster {
-    /// The roster without a client.
+    /// The roster without a client. It takes no memory.
     pub fn new(alloc: Global) -> Result<Roster, NoMemory>
+        ensures sure { IsOk result }
         ensures contents { IfOk result (λ roster. contents_of roster ≡ []) }
         ensures log { IfOk result (λ roster. log_of roster ≡ []) }
         ensures last { IfOk result (λ roster. last_of roster ≡ 0) }
