@@ -1,6 +1,6 @@
-//! A look-up, step by step, on values typed by hand.
+//! A look-up and a list, step by step, on values typed by hand.
 use crate::Reader;
-use cfs_ids::{Actor, At, Call, Client, DirId, FileId, Name, Node, PlaceNo, Reply, Stamp};
+use cfs_ids::{Actor, At, Call, Client, DirId, FileId, Name, Node, PlaceNo, Reply, RowList, Stamp};
 use cfs_steps::{Answer, Ask, Entry, Machine};
 use std::test::Fail;
 
@@ -39,5 +39,31 @@ fn looks_up(rt: HostRuntime) -> Result<(), Fail> {
     assert_eq!(rt; done.at, At::Before(step));
     assert_eq!(rt; done.last, step);
     assert!(rt; matches!(&done.reply, Reply::Node(Node::File(FileId(64)))));
+    Ok(())
+}
+
+#[test]
+fn lists(rt: HostRuntime) -> Result<(), Fail> {
+    let mut reader = Reader::start(Client(1), Call::List { dir: DirId(66) });
+    assert_eq!(rt; reader.next_place(), PlaceNo(2));
+    let ask = reader.ask(0)?;
+    assert!(rt; matches!(&ask, Ask::List { dir: DirId(66) }));
+    let mut rows = RowList::new(rt.alloc());
+    let row = (Name::read(rt.alloc(), b"a")?, Node::File(FileId(64)));
+    assert!(rt; rows.push(row).is_ok());
+    let entry = Entry {
+        actor: Actor::Client(Client(1)),
+        number: 7,
+        ask,
+        answer: Answer::Rows(rows),
+        moved: None,
+    };
+    reader.hear(PlaceNo(2), &entry)?;
+    let Some(done) = reader.finished() else {
+        assert!(rt; false, "a finished call");
+        return Ok(());
+    };
+    assert_eq!(rt; done.last.number, 7);
+    assert!(rt; matches!(&done.reply, Reply::Rows(rows) if rows.len() == 1));
     Ok(())
 }
