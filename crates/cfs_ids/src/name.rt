@@ -57,7 +57,7 @@ fn bad_byte(bytes: &[u8]) -> Option<usize>
 }
 
 impl Name {
-    /// The name of these bytes.
+    /// The name of these bytes. `NoMemory` comes only where they are a name.
     pub fn read(alloc: Global, bytes: &[u8]) -> Result<Name, NameFault>
         ensures { ReadsName bytes.now result }
     {
