@@ -1,5 +1,5 @@
 //! Devices in memory that never fail.
-ghost use Rattle.std.specs.Prelude.{◌≡◌, ◌≤◌, Some, None, drop, vec_len};
+ghost use Rattle.std.specs.Prelude.{◌≡◌, ◌≤◌, ◌+◌, ◌-◌, ◌^◌, min, length, Some, None, Ok, drop, vec_len};
 ghost use Rattle.cfs_io.specs.Causes.{HasCause};
 
 use crate::pieces::move_piece;
@@ -61,7 +61,10 @@ impl Sink for SureSink {
 
     ghost faults = { λ _. 0 };
 
-    fn write(&mut self, bytes: &[u8]) -> Result<usize, Failed> {
+    fn write(&mut self, bytes: &[u8]) -> Result<usize, Failed>
+        ensures all { result ≡ Ok (length bytes.now) }
+        ensures count { self.new.count ≡ min (self.old.count + length bytes.now) (2 ^ 64 - 1) }
+    {
         self.count = self.count.saturating_add(bytes.len() as u64);
         Ok(bytes.len())
     }
