@@ -1,8 +1,11 @@
 //! A replay, and the words, lines and faults that end a command.
 
+mod creates;
+
 use crate::{FreeGate, Status, cfs_words, replay, replay_bytes};
 use cfs_io::{MemSink, MemSource, SureSink};
 use cfs_script::Fault;
+use std::process::Abort;
 use std::sync::Wait;
 use std::test::Fail;
 use std::thread::Threads;
@@ -62,10 +65,35 @@ fn a_command_that_ends_before_its_run(rt: HostRuntime) -> Result<(), Fail> {
     Ok(())
 }
 
+// Replays the script, and checks the text. The source gives ten bytes at a read, and the sink takes seven at a write.
+fn prints(rt: &(impl Abort + AllocGlobal), script: &[u8], text: &[u8]) -> Result<(), Fail> {
+    let alloc = rt.alloc();
+    let bytes = Vec::from_slice(alloc, script)?;
+    let mut source = MemSource::new(bytes, 10, Vec::new(alloc));
+    let Ok(mut sink) = MemSink::new(alloc, 200_000, 7, Vec::new(alloc)) else {
+        panic!(rt; "no memory");
+    };
+    let status = replay(alloc, &mut source, &mut sink);
+    assert_eq!(rt; status, Status::Done);
+    assert_eq!(rt; sink.bytes(), text);
+    Ok(())
+}
+
 const TWO_CREATES: &str = "places 1 1\nclient 1 create /x\nclient 2 create /x\nturns 1 2 2 2 1 1\n";
 
-const TWO_CREATES_TEXT: &str =
-    "cfs 1\nplaces 1 1\nc 1 1 EEXIST\nc 2 1 OK\nl 2 1 2 3 create 0 x = ok 2 f128\nl 1 0 4 5 create 0 x = EEXIST\nt 0 / d0 children=1 links=2 time=2\nt 0 x f128 size=0 time=2\ns steps=6 calls=2 unfinished=0 busy=0 forgets=0 owed=0 debts=0 marks=0 strays=0\n";
+const TWO_CREATES_TEXT: &str = "cfs 1\nplaces 1 1\n\
+    c 1 1 EEXIST\n\
+    c 2 1 OK\n\
+    l 2 1 2 3 create 0 x = ok 2 f128\n\
+    l 1 0 4 5 create 0 x = EEXIST\n\
+    t 0 / d0 children=1 links=2 time=2\n\
+    t 0 x f128 size=0 time=2\n\
+    s steps=6 calls=2 unfinished=0 busy=0 forgets=0 owed=0 debts=0 marks=0 strays=0\n";
+
+#[test]
+fn the_create_that_inserts_first_wins(rt: HostRuntime) -> Result<(), Fail> {
+    prints(&rt, TWO_CREATES.as_bytes(), TWO_CREATES_TEXT.as_bytes())
+}
 
 // The status of a replay of two creates into the sink.
 fn two_creates(rt: &HostRuntime, sink: &mut MemSink) -> Result<Status, Fail> {
@@ -73,17 +101,6 @@ fn two_creates(rt: &HostRuntime, sink: &mut MemSink) -> Result<Status, Fail> {
     let bytes = Vec::from_slice(alloc, TWO_CREATES.as_bytes())?;
     let mut source = MemSource::new(bytes, 10, Vec::new(alloc));
     Ok(replay(alloc, &mut source, sink))
-}
-
-#[test]
-fn the_create_that_inserts_first_wins(rt: HostRuntime) -> Result<(), Fail> {
-    let Ok(mut sink) = MemSink::new(rt.alloc(), 1000, 7, Vec::new(rt.alloc())) else {
-        panic!(rt; "no memory");
-    };
-    let status = two_creates(&rt, &mut sink)?;
-    assert_eq!(rt; status, Status::Done);
-    assert_eq!(rt; sink.bytes(), TWO_CREATES_TEXT.as_bytes());
-    Ok(())
 }
 
 #[test]
