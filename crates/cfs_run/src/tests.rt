@@ -1,6 +1,7 @@
 //! A replay, and the words, lines and faults that end a command.
 
 mod creates;
+mod many;
 mod names;
 
 use crate::{FreeGate, Status, cfs_words, replay, replay_bytes};
