@@ -3,6 +3,7 @@
 mod creates;
 mod many;
 mod names;
+mod refusals;
 
 use crate::{FreeGate, Status, cfs_words, replay, replay_bytes};
 use cfs_io::{MemSink, MemSource, SureSink};
