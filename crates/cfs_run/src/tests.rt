@@ -78,7 +78,8 @@ fn prints(rt: &(impl Abort + AllocGlobal), script: &[u8], text: &[u8]) -> Result
     };
     let status = replay(alloc, &mut source, &mut sink);
     assert_eq!(rt; status, Status::Done);
-    assert_eq!(rt; sink.bytes(), text);
+    let printed = String::from_utf8_lossy(alloc, sink.bytes())?;
+    assert!(rt; sink.bytes() == text, "printed is {printed}");
     Ok(())
 }
 
