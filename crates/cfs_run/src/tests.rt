@@ -36,35 +36,43 @@ fn outcome_of<R: Threads + Wait + Sync + AllocGlobal>(
 }
 
 #[test]
+fn words_that_are_not_expected(rt: HostRuntime) -> Result<(), Fail> {
+    let cases: [(&[&str], usize); 4] = [
+        (&[], 0),
+        (&["play"], 0),
+        (&["replay", "it"], 1),
+        (&["it", "replay"], 0),
+    ];
+    for (words, word) in cases {
+        let outcome = outcome_of(&rt, words, SCRIPT, &[])?;
+        assert_eq!(rt; outcome, (Status::Usage { word }, 0));
+    }
+    Ok(())
+}
+
+#[test]
 fn a_command_that_ends_before_its_run(rt: HostRuntime) -> Result<(), Fail> {
-    let none = outcome_of(&rt, &[], SCRIPT, &[])?;
-    assert_eq!(rt; none, (Status::Usage { word: 0 }, 0));
-    let other = outcome_of(&rt, &["play"], SCRIPT, &[])?;
-    assert_eq!(rt; other, (Status::Usage { word: 0 }, 0));
-    let more = outcome_of(&rt, &["replay", "it"], SCRIPT, &[])?;
-    assert_eq!(rt; more, (Status::Usage { word: 1 }, 0));
-    let bad = outcome_of(&rt, &["replay"], "places 1 1\nclient 1 move /x\n", &[])?;
-    assert_eq!(rt;
-        bad,
-        (
-            Status::Script {
-                line: 2,
-                fault: Fault::NotBuilt
-            },
-            0
-        )
-    );
-    let fault = outcome_of(&rt, &["replay"], SCRIPT, &[2])?;
-    assert_eq!(rt; fault, (Status::ReadFault, 0));
-    assert_eq!(rt; fault.0.code(), 4);
-    let short = Vec::from_slice(rt.alloc(), "places 1 1".as_bytes())?;
-    assert_eq!(rt;
-        replay_bytes(rt.alloc(), short),
-        Status::Script {
-            line: 1,
-            fault: Fault::NotBuilt
-        }
-    );
+    let fault = Fault::NotBuilt;
+    let bad = "places 1 1\nclient 1 move /x\n";
+    let cases: [(&str, &[u64], (Status, u64)); 2] = [
+        (bad, &[], (Status::Script { line: 2, fault }, 0)),
+        (SCRIPT, &[2], (Status::ReadFault, 0)),
+    ];
+    for (script, fails, want) in cases {
+        let outcome = outcome_of(&rt, &["replay"], script, fails)?;
+        assert_eq!(rt; outcome, want, "at {script}");
+    }
+    Ok(())
+}
+
+#[test]
+fn bytes_that_no_device_fails_on(rt: HostRuntime) -> Result<(), Fail> {
+    let short = Vec::from_slice(rt.alloc(), b"places 1 1")?;
+    let line = 1;
+    let fault = Fault::NotBuilt;
+    let status = replay_bytes(rt.alloc(), short);
+    assert_eq!(rt; status, Status::Script { line, fault });
+    assert_eq!(rt; Status::ReadFault.code(), 4);
     Ok(())
 }
 

@@ -6,17 +6,17 @@ use cfs_script::Fault;
 use std::process::Abort;
 use std::test::Fail;
 
-// The status of a replay of the script into a sink of this room, and how many bytes were written. The calls in `fails`
-// of the source fail, which gives a thousand bytes at a read.
+// The status of a replay of the script into a sink of this room, and how many bytes were written. The source gives a
+// thousand bytes at a read, and fails at the call `fail`, counted from 1.
 fn outcome(
     rt: &(impl Abort + AllocGlobal),
     script: &[u8],
-    fails: &[u64],
+    fail: u64,
     room: usize,
 ) -> Result<(Status, usize), Fail> {
     let alloc = rt.alloc();
     let bytes = Vec::from_slice(alloc, script)?;
-    let mut source = MemSource::new(bytes, 1000, Vec::from_slice(alloc, fails)?);
+    let mut source = MemSource::new(bytes, 1000, Vec::from_slice(alloc, &[fail])?);
     let Ok(mut sink) = MemSink::new(alloc, room, 7, Vec::new(alloc)) else {
         panic!(rt; "no memory");
     };
@@ -39,7 +39,7 @@ fn refuses_each(
 ) -> Result<(), Fail> {
     for line in lines {
         let script = format!(in rt.alloc(); "{head}{line}\n")?;
-        let outcome = outcome(rt, script.as_bytes(), &[], 1000)?;
+        let outcome = outcome(rt, script.as_bytes(), 0, 1000)?;
         assert_eq!(rt; outcome, refused(number), "at {line}");
     }
     Ok(())
@@ -170,7 +170,7 @@ fn the_first_of_several_faults(rt: HostRuntime) -> Result<(), Fail> {
         ("places 1 1\nclient 1 list /\nturns 2\nturns 3", 3),
     ];
     for (script, line) in cases {
-        let outcome = outcome(&rt, script.as_bytes(), &[], 1000)?;
+        let outcome = outcome(&rt, script.as_bytes(), 0, 1000)?;
         assert_eq!(rt; outcome, refused(line), "at {script}");
     }
     Ok(())
@@ -189,7 +189,7 @@ fn refuses_long(
         script.extend_from_slice(unit.as_bytes())?;
     }
     script.extend_from_slice(tail.as_bytes())?;
-    let outcome = outcome(rt, script.as_slice(), &[], 1000)?;
+    let outcome = outcome(rt, script.as_slice(), 0, 1000)?;
     assert_eq!(rt; outcome, refused(line), "at {count} of {unit}");
     Ok(())
 }
@@ -229,11 +229,15 @@ fn a_byte_too_many(rt: HostRuntime) -> Result<(), Fail> {
 
 #[test]
 fn the_cause_that_comes_first(rt: HostRuntime) -> Result<(), Fail> {
-    let bad = b"places 2 1\n";
-    let good = b"places 1 1\n";
-    assert_eq!(rt; outcome(&rt, bad, &[2], 0)?, (Status::ReadFault, 0));
-    assert_eq!(rt; outcome(&rt, good, &[2], 0)?, (Status::ReadFault, 0));
-    assert_eq!(rt; outcome(&rt, bad, &[], 0)?, refused(1));
-    assert_eq!(rt; outcome(&rt, good, &[], 0)?, (Status::WriteFault, 0));
+    let cases = [
+        ("places 2 1\n", 2, (Status::ReadFault, 0)),
+        ("places 1 1\n", 2, (Status::ReadFault, 0)),
+        ("places 2 1\n", 0, refused(1)),
+        ("places 1 1\n", 0, (Status::WriteFault, 0)),
+    ];
+    for (script, fail, want) in cases {
+        let outcome = outcome(&rt, script.as_bytes(), fail, 0)?;
+        assert_eq!(rt; outcome, want, "at {script}");
+    }
     Ok(())
 }
