@@ -1,8 +1,14 @@
 //! A replay, and the words, lines and faults that end a command.
 
+mod creates;
+mod many;
+mod names;
+mod refusals;
+
 use crate::{FreeGate, Status, cfs_words, replay, replay_bytes};
 use cfs_io::{MemSink, MemSource, SureSink};
 use cfs_script::Fault;
+use std::process::Abort;
 use std::sync::Wait;
 use std::test::Fail;
 use std::thread::Threads;
@@ -30,42 +36,76 @@ fn outcome_of<R: Threads + Wait + Sync + AllocGlobal>(
 }
 
 #[test]
+fn words_that_are_not_expected(rt: HostRuntime) -> Result<(), Fail> {
+    let cases: [(&[&str], usize); 4] = [
+        (&[], 0),
+        (&["play"], 0),
+        (&["replay", "it"], 1),
+        (&["it", "replay"], 0),
+    ];
+    for (words, word) in cases {
+        let outcome = outcome_of(&rt, words, SCRIPT, &[])?;
+        assert_eq!(rt; outcome, (Status::Usage { word }, 0));
+    }
+    Ok(())
+}
+
+#[test]
 fn a_command_that_ends_before_its_run(rt: HostRuntime) -> Result<(), Fail> {
-    let none = outcome_of(&rt, &[], SCRIPT, &[])?;
-    assert_eq!(rt; none, (Status::Usage { word: 0 }, 0));
-    let other = outcome_of(&rt, &["play"], SCRIPT, &[])?;
-    assert_eq!(rt; other, (Status::Usage { word: 0 }, 0));
-    let more = outcome_of(&rt, &["replay", "it"], SCRIPT, &[])?;
-    assert_eq!(rt; more, (Status::Usage { word: 1 }, 0));
-    let bad = outcome_of(&rt, &["replay"], "places 1 1\nclient 1 move /x\n", &[])?;
-    assert_eq!(rt;
-        bad,
-        (
-            Status::Script {
-                line: 2,
-                fault: Fault::NotBuilt
-            },
-            0
-        )
-    );
-    let fault = outcome_of(&rt, &["replay"], SCRIPT, &[2])?;
-    assert_eq!(rt; fault, (Status::ReadFault, 0));
-    assert_eq!(rt; fault.0.code(), 4);
-    let short = Vec::from_slice(rt.alloc(), "places 1 1".as_bytes())?;
-    assert_eq!(rt;
-        replay_bytes(rt.alloc(), short),
-        Status::Script {
-            line: 1,
-            fault: Fault::NotBuilt
-        }
-    );
+    let fault = Fault::NotBuilt;
+    let bad = "places 1 1\nclient 1 move /x\n";
+    let cases: [(&str, &[u64], (Status, u64)); 2] = [
+        (bad, &[], (Status::Script { line: 2, fault }, 0)),
+        (SCRIPT, &[2], (Status::ReadFault, 0)),
+    ];
+    for (script, fails, want) in cases {
+        let outcome = outcome_of(&rt, &["replay"], script, fails)?;
+        assert_eq!(rt; outcome, want, "at {script}");
+    }
+    Ok(())
+}
+
+#[test]
+fn bytes_that_no_device_fails_on(rt: HostRuntime) -> Result<(), Fail> {
+    let short = Vec::from_slice(rt.alloc(), b"places 1 1")?;
+    let line = 1;
+    let fault = Fault::NotBuilt;
+    let status = replay_bytes(rt.alloc(), short);
+    assert_eq!(rt; status, Status::Script { line, fault });
+    assert_eq!(rt; Status::ReadFault.code(), 4);
+    Ok(())
+}
+
+// Replays the script, and checks the text. The source gives ten bytes at a read, and the sink takes seven at a write.
+fn prints(rt: &(impl Abort + AllocGlobal), script: &[u8], text: &[u8]) -> Result<(), Fail> {
+    let alloc = rt.alloc();
+    let bytes = Vec::from_slice(alloc, script)?;
+    let mut source = MemSource::new(bytes, 10, Vec::new(alloc));
+    let Ok(mut sink) = MemSink::new(alloc, 200_000, 7, Vec::new(alloc)) else {
+        panic!(rt; "no memory");
+    };
+    let status = replay(alloc, &mut source, &mut sink);
+    assert_eq!(rt; status, Status::Done);
+    let printed = String::from_utf8_lossy(alloc, sink.bytes())?;
+    assert!(rt; sink.bytes() == text, "printed is {printed}");
     Ok(())
 }
 
 const TWO_CREATES: &str = "places 1 1\nclient 1 create /x\nclient 2 create /x\nturns 1 2 2 2 1 1\n";
 
-const TWO_CREATES_TEXT: &str =
-    "cfs 1\nplaces 1 1\nc 1 1 EEXIST\nc 2 1 OK\nl 2 1 2 3 create 0 x = ok 2 f128\nl 1 0 4 5 create 0 x = EEXIST\nt 0 / d0 children=1 links=2 time=2\nt 0 x f128 size=0 time=2\ns steps=6 calls=2 unfinished=0 busy=0 forgets=0 owed=0 debts=0 marks=0 strays=0\n";
+const TWO_CREATES_TEXT: &str = "cfs 1\nplaces 1 1\n\
+    c 1 1 EEXIST\n\
+    c 2 1 OK\n\
+    l 2 1 2 3 create 0 x = ok 2 f128\n\
+    l 1 0 4 5 create 0 x = EEXIST\n\
+    t 0 / d0 children=1 links=2 time=2\n\
+    t 0 x f128 size=0 time=2\n\
+    s steps=6 calls=2 unfinished=0 busy=0 forgets=0 owed=0 debts=0 marks=0 strays=0\n";
+
+#[test]
+fn the_create_that_inserts_first_wins(rt: HostRuntime) -> Result<(), Fail> {
+    prints(&rt, TWO_CREATES.as_bytes(), TWO_CREATES_TEXT.as_bytes())
+}
 
 // The status of a replay of two creates into the sink.
 fn two_creates(rt: &HostRuntime, sink: &mut MemSink) -> Result<Status, Fail> {
@@ -73,17 +113,6 @@ fn two_creates(rt: &HostRuntime, sink: &mut MemSink) -> Result<Status, Fail> {
     let bytes = Vec::from_slice(alloc, TWO_CREATES.as_bytes())?;
     let mut source = MemSource::new(bytes, 10, Vec::new(alloc));
     Ok(replay(alloc, &mut source, sink))
-}
-
-#[test]
-fn the_create_that_inserts_first_wins(rt: HostRuntime) -> Result<(), Fail> {
-    let Ok(mut sink) = MemSink::new(rt.alloc(), 1000, 7, Vec::new(rt.alloc())) else {
-        panic!(rt; "no memory");
-    };
-    let status = two_creates(&rt, &mut sink)?;
-    assert_eq!(rt; status, Status::Done);
-    assert_eq!(rt; sink.bytes(), TWO_CREATES_TEXT.as_bytes());
-    Ok(())
 }
 
 #[test]
