@@ -1,6 +1,8 @@
 //! A replay, and the words, lines and faults that end a command.
+ghost use Rattle.std.specs.Prelude.{◌<◌};
 
 mod creates;
+mod faults;
 mod many;
 mod names;
 mod refusals;
@@ -78,10 +80,24 @@ fn bytes_that_no_device_fails_on(rt: HostRuntime) -> Result<(), Fail> {
 
 // Replays the script, and checks the text. The source gives ten bytes at a read, and the sink takes seven at a write.
 fn prints(rt: &(impl Abort + AllocGlobal), script: &[u8], text: &[u8]) -> Result<(), Fail> {
+    prints_in(rt, script, text, 10, 7)
+}
+
+// The same in pieces of so many bytes.
+fn prints_in(
+    rt: &(impl Abort + AllocGlobal),
+    script: &[u8],
+    text: &[u8],
+    read: usize,
+    written: usize,
+) -> Result<(), Fail>
+    requires read { 0 < read }
+    requires written { 0 < written }
+{
     let alloc = rt.alloc();
     let bytes = Vec::from_slice(alloc, script)?;
-    let mut source = MemSource::new(bytes, 10, Vec::new(alloc));
-    let Ok(mut sink) = MemSink::new(alloc, 200_000, 7, Vec::new(alloc)) else {
+    let mut source = MemSource::new(bytes, read, Vec::new(alloc));
+    let Ok(mut sink) = MemSink::new(alloc, 200_000, written, Vec::new(alloc)) else {
         panic!(rt; "no memory");
     };
     let status = replay(alloc, &mut source, &mut sink);
@@ -105,26 +121,4 @@ const TWO_CREATES_TEXT: &str = "cfs 1\nplaces 1 1\n\
 #[test]
 fn the_create_that_inserts_first_wins(rt: HostRuntime) -> Result<(), Fail> {
     prints(&rt, TWO_CREATES.as_bytes(), TWO_CREATES_TEXT.as_bytes())
-}
-
-// The status of a replay of two creates into the sink.
-fn two_creates(rt: &HostRuntime, sink: &mut MemSink) -> Result<Status, Fail> {
-    let alloc = rt.alloc();
-    let bytes = Vec::from_slice(alloc, TWO_CREATES.as_bytes())?;
-    let mut source = MemSource::new(bytes, 10, Vec::new(alloc));
-    Ok(replay(alloc, &mut source, sink))
-}
-
-#[test]
-fn a_write_that_fails_leaves_a_front(rt: HostRuntime) -> Result<(), Fail> {
-    let mut fails = Vec::new(rt.alloc());
-    fails.push(70)?;
-    let Ok(mut sink) = MemSink::new(rt.alloc(), 1000, 1, fails) else {
-        panic!(rt; "no memory");
-    };
-    let status = two_creates(&rt, &mut sink)?;
-    assert_eq!(rt; status, Status::WriteFault);
-    assert_eq!(rt; status.code(), 5);
-    assert_eq!(rt; sink.bytes(), &TWO_CREATES_TEXT.as_bytes()[..69]);
-    Ok(())
 }
