@@ -1,7 +1,7 @@
 -- A client's new state in the place of its old one.
 use Rattle.std.proofs.Common.{◌≡◌, ℕ, suc, zero, ◌+◌, ◌<◌, ◌≤◌, List, [], ◌∷◌, Bool, true, false, cond, refl, ap, arith, set, get_or, length, zero}
-use Rattle.std.specs.Prelude.{if◌then◌else◌, ◌==◌, ◌||◌, Option, Some, None, position}
-use Rattle.std.specs.List.{position_or_len, list_any}
+use Rattle.std.specs.Prelude.{if◌then◌else◌, ◌==◌, ◌||◌, Some, None, position}
+use Rattle.std.specs.List.{position_or_len}
 use Rattle.std.proofs.lemmas.Bool.Decides.{nat_tests}
 use Rattle.cfs_rules.specs.Worlds.{set_client}
 use Rattle.cfs_actor.specs.declared.client_state.ClientState.{ClientState}

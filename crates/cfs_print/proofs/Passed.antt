@@ -1,5 +1,5 @@
 -- Several texts on their way to a sink, one after another.
-use Rattle.std.proofs.Common.{◌≡◌, ℕ, ◌<◌, suc, ◌+◌, List, [], ◌∷◌, ◌++◌, Some, None, Ok, Err, Result, OnOk, ap, sym, ◌∙◌, refl, subst, append_assoc, append-nil, take, drop, get_or, length}
+use Rattle.std.proofs.Common.{◌≡◌, ℕ, ◌<◌, ◌+◌, List, [], ◌∷◌, ◌++◌, Some, None, Ok, Err, Result, OnOk, ap, sym, ◌∙◌, subst, append_assoc, append-nil, take, get_or, length}
 use Rattle.std.specs.List.{flat_map}
 use Rattle.std.proofs.lemmas.List.{take_more}
 use Rattle.std.proofs.lemmas.List.Concat.{flat_map-append}

@@ -1,6 +1,5 @@
 -- When a history is legal, and its last namespace. These speak of one tree and a list of lines: no place, no step.
 use Rattle.std.specs.Prelude.{◌≡◌, ◌≢◌, ℕ, ◌+◌, ◌<◌, ◌≤◌, List, [], ◌∷◌, Bool, true, false, Option, Some, None, ◌⊎◌}
-use Rattle.cfs_ids.specs.declared.ids.Node.{Node}
 use Rattle.cfs_ids.specs.declared.call.Reply.TheVariants.{Moved as MovedReply}
 use Rattle.cfs_ids.specs.Namespace.{Namespace, answer, after, IsDefined, empty_root}
 use Rattle.cfs_steps.specs.declared.line.Line.{Line}

@@ -1,11 +1,10 @@
 -- The tree that the places hold, and what is left to do.
-use Rattle.std.specs.Prelude.{ℕ, Bool, false, true, not, ◌||◌, ◌&&◌, ◌==◌, Option, Some, None, is_none, is_some}
+use Rattle.std.specs.Prelude.{ℕ, Bool, false, not, ◌||◌, ◌&&◌, ◌==◌, Option, Some, None, is_none, is_some}
 use Rattle.std.specs.List.{list_any}
 use Rattle.std.specs.FinMap.{get, entries, retain_keys}
 use Rattle.cfs_ids.specs.declared.ids.Client.{Client}
-use Rattle.cfs_ids.specs.Maps.{Names, Numbers, map_values, how_many}
+use Rattle.cfs_ids.specs.Maps.{map_values, how_many}
 use Rattle.cfs_ids.specs.Namespace.{Namespace, Directory, FileFacts, names_file}
-use Rattle.cfs_steps.specs.declared.contents.Row.{Row}
 use Rattle.cfs_steps.specs.declared.contents.DirRec.{DirRec}
 use Rattle.cfs_steps.specs.declared.contents.FileRec.{FileRec}
 use Rattle.cfs_rules.specs.Places.{Shard, Store, Roster, names_of}

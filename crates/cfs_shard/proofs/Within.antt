@@ -1,6 +1,6 @@
 -- Each step of a shard lengthens the log by one, and the counts of its directories by one at most.
-use Rattle.std.proofs.Common.{◌≡◌, ◌≢◌, ℕ, suc, ◌+◌, ◌≤◌, List, length, Bool, true, false, cond, refl, sym, ◌∙◌, ap, arith, ◌⊎◌, inl, inr}
-use Rattle.std.specs.Prelude.{max, if◌then◌else◌, ◌==◌, Option, Some, None}
+use Rattle.std.proofs.Common.{◌≡◌, ℕ, ◌+◌, ◌≤◌, List, Bool, true, false, refl, arith, ◌⊎◌, inl, inr}
+use Rattle.std.specs.Prelude.{if◌then◌else◌, Option, Some, None}
 use Rattle.std.proofs.lemmas.Bool.Decides.{nat_tests}
 use Rattle.std.specs.Ordering.{nat_cmp}
 use Rattle.std.specs.FinMap.{get, insert, empty, gets, get-empty}
@@ -8,13 +8,13 @@ use Rattle.cfs_ids.specs.declared.ids.DirId.{DirId}
 use Rattle.cfs_ids.specs.declared.ids.Client.{Client}
 use Rattle.cfs_ids.specs.declared.ids.Stamp.{Stamp}
 use Rattle.cfs_ids.specs.declared.ids.Node.{Node}
-use Rattle.cfs_ids.specs.Maps.{Names, Numbers, row_key}
+use Rattle.cfs_ids.specs.Maps.{Numbers, row_key}
 use Rattle.cfs_ids.specs.Namespace.{is_dir}
 use Rattle.cfs_steps.specs.declared.ask.Ask.{Ask}
 use Rattle.cfs_steps.specs.declared.ask.Ask.TheVariants.{Read, List as ListAsk, Insert, Put, Settle, TakeBack, End}
 use Rattle.cfs_steps.specs.declared.contents.Row.{Row}
 use Rattle.cfs_steps.specs.declared.contents.DirRec.{DirRec}
-use Rattle.cfs_rules.specs.Places.{Shard, serve_shard, opening_shard, empty_attr, inserted, updated, with_row}
+use Rattle.cfs_rules.specs.Places.{Shard, serve_shard, opening_shard, empty_attr, inserted, updated}
 use Rattle.cfs_shard.specs.Bounds.{Within, CountsWithin}
 
 more : (n : ℕ) (s : Shard) → CountsWithin n s → CountsWithin (n + 1) s

@@ -1,5 +1,5 @@
 -- The place of an ask.
-use Rattle.std.specs.Prelude.{ℕ, ◌+◌, ◌%◌}
+use Rattle.std.specs.Prelude.{◌+◌, ◌%◌}
 use Rattle.cfs_ids.specs.declared.ids.DirId.{DirId}
 use Rattle.cfs_ids.specs.declared.ids.Node.{Node}
 use Rattle.cfs_ids.specs.declared.ids.Node.TheVariants.{Dir, File}

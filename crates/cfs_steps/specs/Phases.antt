@@ -5,9 +5,7 @@ use Rattle.cfs_ids.specs.declared.ids.FileId.{FileId}
 use Rattle.cfs_ids.specs.declared.ids.Client.{Client}
 use Rattle.cfs_ids.specs.declared.ids.PlaceNo.{PlaceNo}
 use Rattle.cfs_ids.specs.declared.ids.Stamp.{Stamp}
-use Rattle.cfs_ids.specs.declared.ids.At.{At}
 use Rattle.cfs_ids.specs.declared.ids.At.TheVariants.{Step, Before}
-use Rattle.cfs_ids.specs.declared.ids.Node.{Node}
 use Rattle.cfs_ids.specs.declared.ids.Node.TheVariants.{File}
 use Rattle.cfs_ids.specs.declared.errno.Errno.{Errno}
 use Rattle.cfs_ids.specs.declared.errno.Errno.TheVariants.{Enoent, Eexist}

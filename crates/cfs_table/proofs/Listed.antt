@@ -5,9 +5,9 @@ use Rattle.std.specs.List.{list_any}
 use Rattle.std.specs.Option.{option_map}
 use Rattle.std.specs.declared.cmp.Ordering.{Ordering}
 use Rattle.std.specs.Ordering.{nat_cmp, is_lt}
-use Rattle.std.specs.Cmp.{IsTotalOrder, nat_cmp_total}
+use Rattle.std.specs.Cmp.{IsTotalOrder}
 use Rattle.std.specs.Cmp.Lexicographic.{slice_cmp, nat_list_cmp_total}
-use Rattle.std.specs.FinMap.{FinMap, get, empty, entries, entries_sorted, find, is_sorted, from_entries, from_sorted, entries-from_sorted, get-from_sorted, get-entries, get-from_entries, get-empty, len-entries, len-empty, entries-insert, same_map, nat_cmp-IsAntisymmetric, slice_cmp-IsAntisymmetric}
+use Rattle.std.specs.FinMap.{get, empty, entries, entries_sorted, find, is_sorted, from_entries, from_sorted, entries-from_sorted, get-from_sorted, get-entries, get-from_entries, get-empty, len-entries, len-empty, entries-insert, same_map, nat_cmp-IsAntisymmetric, slice_cmp-IsAntisymmetric}
 use Rattle.std.specs.FinMap.Entries.{below_all}
 use Rattle.cfs_ids.specs.Maps.{Names, Numbers, within}
 use Rattle.cfs_ids.proofs.MapLemmas.{list_any-put, find-within}

@@ -1,4 +1,3 @@
-use Rattle.std.proofs.Common.{◌≡◌, sym, ◌∙◌}
 use Rattle.cfs_actor.proofs.Heard.{fits-heard, same-number, answers-settled}
 use Rattle.cfs_actor.specs.States.{worked_in}
 use Rattle.cfs_actor.proofs.client_state.ClientState.hear.Goals as goal

@@ -1,4 +1,4 @@
-use Rattle.std.proofs.Common.{◌≡◌, ◌<◌, length, sym, subst, arith}
+use Rattle.std.proofs.Common.{length, sym, subst, arith}
 use Rattle.cfs_rules.specs.Places.{Shard, opening_shard}
 use Rattle.cfs_shard.specs.Bounds.{CountsWithin}
 use Rattle.cfs_shard.proofs.Within.{raised, opening-within}

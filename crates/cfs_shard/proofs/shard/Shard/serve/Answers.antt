@@ -1,4 +1,4 @@
-use Rattle.std.proofs.Common.{◌≡◌, ◌+◌, ◌≤◌, length, sym, subst, ap, arith, length-append}
+use Rattle.std.proofs.Common.{◌+◌, ◌≤◌, length, sym, subst, ap, arith, length-append}
 use Rattle.cfs_ids.specs.declared.ids.Stamp.{Stamp}
 use Rattle.cfs_rules.specs.Places.{Shard, serve_shard}
 use Rattle.cfs_rules.specs.Facts.{CountsHold}

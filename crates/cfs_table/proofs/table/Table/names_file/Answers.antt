@@ -1,4 +1,4 @@
-use Rattle.std.proofs.Common.{◌≡◌, ◌∙◌, sym}
+use Rattle.std.proofs.Common.{◌∙◌, sym}
 use Rattle.cfs_ids.specs.Namespace.{names_file}
 use Rattle.cfs_steps.specs.declared.contents.Row.{Row}
 use Rattle.cfs_table.proofs.Listed.{list_any-flat}

@@ -1,4 +1,4 @@
-use Rattle.std.proofs.Common.{◌≡◌, ◌∙◌, ap}
+use Rattle.std.proofs.Common.{◌∙◌, ap}
 use Rattle.cfs_table.specs.Flat.{flat}
 use Rattle.cfs_table.proofs.Listed.{flat-empty}
 use Rattle.cfs_table.proofs.table.Table.new.Goals as goal

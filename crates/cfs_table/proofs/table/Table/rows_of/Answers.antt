@@ -1,4 +1,4 @@
-use Rattle.std.proofs.Common.{◌≡◌, ◌∙◌, sym, Some, None}
+use Rattle.std.proofs.Common.{◌≡◌, sym, Some, None}
 use Rattle.std.specs.FinMap.{get, empty}
 use Rattle.cfs_steps.specs.declared.contents.Row.{Row}
 use Rattle.std.specs.Ordering.{nat_cmp}

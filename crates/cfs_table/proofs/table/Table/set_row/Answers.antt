@@ -1,4 +1,3 @@
-use Rattle.std.proofs.Common.{◌≡◌}
 use Rattle.cfs_table.proofs.Flattened.{get-names_of}
 use Rattle.cfs_table.proofs.table.Table.set_row.Goals as goal
 
