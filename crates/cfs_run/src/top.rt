@@ -28,7 +28,7 @@ pub fn replay<S: Source, K: Sink>(alloc: Global, source: &mut S, sink: &mut K) -
     ensures read_fault { result ≡ Status.ReadFault → Rose (S.faults source.old) (S.faults source.new) }
     ensures write_fault { result ≡ Status.WriteFault → Rose (K.faults sink.old) (K.faults sink.new) }
     ensures cut_off { result ≡ Status.WriteFault → CutOff (S.left source.old) (S.left source.new) (K.taken sink.old) (K.taken sink.new) }
-    ensures untouched { ComesBeforeWriting result → K.taken sink.new ≡ K.taken sink.old }
+    ensures untouched { ComesBeforeWriting result → sink.new ≡ sink.old }
 
     // A log has more room than a script has turns.
     ensures not_full { (place : PlaceNo) → result ≢ Status.LogFull place }
@@ -98,7 +98,7 @@ pub fn cfs_words<R: Threads + Wait + Sync, S: Source, K: Sink, G: Gate + Sync>(
     ensures read_fault { result ≡ Status.ReadFault → Rose (S.faults source.old) (S.faults source.new) }
     ensures write_fault { result ≡ Status.WriteFault → Rose (K.faults sink.old) (K.faults sink.new) }
     ensures cut_off { result ≡ Status.WriteFault → CutOff (S.left source.old) (S.left source.new) (K.taken sink.old) (K.taken sink.new) }
-    ensures untouched { ComesBeforeWriting result → K.taken sink.new ≡ K.taken sink.old }
+    ensures untouched { ComesBeforeWriting result → sink.new ≡ sink.old }
 
     // A log has more room than a script has turns.
     ensures not_full { (place : PlaceNo) → result ≢ Status.LogFull place }
