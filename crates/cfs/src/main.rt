@@ -2,6 +2,8 @@
 #![tactic(auto)]
 
 mod fault;
+#[cfg(test)]
+mod tests;
 
 use cfs_io::{StdSink, StdSource};
 use cfs_run::{FreeGate, Status, cfs_words};

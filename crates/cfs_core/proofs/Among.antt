@@ -1,15 +1,17 @@
 -- A turn among all clients, by the state of the one that makes it.
 use Rattle.std.proofs.Common.{◌≡◌, ℕ, List, false, sym, ap, ◌∙◌, subst, set, get_or}
-use Rattle.std.specs.Prelude.{Some, ◌==◌, position}
+use Rattle.std.specs.Prelude.{Option, Some, ◌==◌, position}
 use Rattle.cfs_ids.specs.declared.ids.Client.{Client}
 use Rattle.cfs_ids.specs.declared.ids.PlaceNo.{PlaceNo}
-use Rattle.cfs_rules.specs.Worlds.{Progress, client_of, set_client}
+use Rattle.cfs_ids.specs.declared.ids.Actor.TheVariants.{Client as ClientActor}
+use Rattle.cfs_steps.specs.declared.ask.Ask.{Ask}
+use Rattle.cfs_rules.specs.Worlds.{Progress, client_of, next_ask, set_client}
 use Rattle.cfs_actor.specs.declared.client_state.ClientState.{ClientState}
 use Rattle.cfs_actor.specs.Clients as states
-use Rattle.cfs_view.specs.Held.{Held}
+use Rattle.cfs_view.specs.Held.{Held, serve}
 use Rattle.cfs_core.specs.Clients.{progress_in}
 use Rattle.cfs_core.specs.Counted.{IsCounted}
-use Rattle.cfs_core.specs.Parts.{Part, turn_part, full_next}
+use Rattle.cfs_core.specs.Parts.{Part, turned, turn_part, full_next}
 use Rattle.cfs_core.proofs.States.{progress_in-at, client-at, progress_in-set}
 use Rattle.cfs_core.proofs.Counting.{turn-counted}
 
@@ -32,3 +34,14 @@ stepped-counted all i old new client h h' order order' at is same step room k =
     let counted = turn-counted order h (progress_in all) client.0 (states.progress_of old) (was-progress all i old client at is) k room' in
     subst (λ (cs : ℕ → Progress). IsCounted order' h' cs) (sym (progress_in-set all client.0 i new at own))
     (subst (λ (q : Part). IsCounted q.order q.held (set_client (progress_in all) client.0 q.progress)) (sym part) counted)
+
+-- what the places hold after a step
+pub stepped-held : (c k : Client) (p q new : Progress) (h h' : Held) (order order' : List PlaceNo) (ask : Ask)
+    → ◌≡◌ {A = Part} (record { held = h'; progress = new; order = order' }) (turn_part c (record { held = h; progress = p; order = order }))
+    → c ≡ k → q ≡ p → Some ask ≡ next_ask k q → h' ≡ (serve h (ClientActor k) q.last ask).held
+stepped-held c k p q new h h' order order' ask step same was next =
+    let asked = ap (λ (d : Client). next_ask d p) same ∙ ap (λ (r : Progress). next_ask k r) (sym was) ∙ sym next in
+    ap (λ (part : Part). part.held) step
+    ∙ ap (λ (o : Option Ask). (turned c (record { held = h; progress = p; order = order }) o).held) asked
+    ∙ ap (λ (d : Client). (serve h (ClientActor d) p.last ask).held) same
+    ∙ ap (λ (r : Progress). (serve h (ClientActor k) r.last ask).held) (sym was)

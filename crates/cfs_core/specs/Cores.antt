@@ -1,10 +1,11 @@
 -- What a core shows: its world, its members, the steps made so far, and whose next step finds a full log.
 use Rattle.std.specs.Prelude.{◌≡◌, ℕ, List, Bool, true, length, Option, Some}
+use Rattle.cfs_ids.specs.declared.ids.Actor.TheVariants.{Client as ClientActor}
 use Rattle.cfs_ids.specs.declared.ids.PlaceNo.{PlaceNo}
 use Rattle.cfs_steps.specs.declared.ask.Ask.{Ask}
 use Rattle.cfs_steps.specs.Asks.{place_of}
 use Rattle.cfs_rules.specs.Worlds.{World, client_of, next_ask}
-use Rattle.cfs_view.specs.Held.{Held, log_full}
+use Rattle.cfs_view.specs.Held.{Held, log_full, serve}
 use Rattle.cfs_view.specs.Views.{held}
 use Rattle.cfs_core.specs.Clients as states
 use Rattle.cfs_core.specs.declared.service.Core.{Core}
@@ -12,7 +13,7 @@ use Rattle.cfs_core.specs.declared.service.Core.{Core}
 abbrev pub world_of : Core → World
 world_of core = states.world_in core.places core.clients.items core.order.items
 
--- the numbers of the clients, by their order in the script
+-- the numbers of the clients, in the order of the script's lists, by rising number
 abbrev pub members_of : Core → List ℕ
 members_of core = states.members_of core.clients.items
 
@@ -29,6 +30,10 @@ held_of core = held core.places
 
 abbrev pub asked_of : Core → ℕ → Option Ask
 asked_of core c = next_ask (client_of c) ((world_of core).clients c)
+
+-- what the places hold after the client's step with this ask
+abbrev pub held_after : Core → ℕ → Ask → Held
+held_after core c ask = (serve (held_of core) (ClientActor (client_of c)) ((world_of core).clients c).last ask).held
 
 -- the client's next step is at this place, and the log there has 1,048,576 entries
 pub record AsksFull (core : Core) (c : ℕ) (place : PlaceNo) : Type 0 where

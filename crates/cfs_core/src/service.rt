@@ -4,7 +4,8 @@ ghost use Rattle.std.proofs.Props.{props};
 ghost use Rattle.cfs_steps.specs.declared.ask.Ask.{Ask};
 ghost use Rattle.cfs_steps.specs.Asks.{place_of};
 ghost use Rattle.cfs_rules.specs.Worlds.{opening, turn};
-ghost use Rattle.cfs_view.specs.Held.{log_full};
+ghost use Rattle.cfs_view.specs.Held.{opening_held, log_full};
+ghost use Rattle.cfs_view.specs.Views.{held};
 ghost use Rattle.cfs_core.specs.Clients.{CountedIn, number_in};
 ghost use Rattle.cfs_core.specs.Finished.{IsRunOf};
 ghost use Rattle.cfs_core.specs.Opening.{calls_in, members_in};
@@ -31,13 +32,14 @@ pub struct Core {
 }
 
 impl Core {
-    ghost use Rattle.cfs_core.specs.Cores.{world_of, members_of, is_member, steps_of, held_of, asked_of, AsksFull};
+    ghost use Rattle.cfs_core.specs.Cores.{world_of, members_of, is_member, steps_of, held_of, held_after, asked_of, AsksFull};
 
     /// The core of a script before its first turn. The Err is want of memory.
     pub fn begin(alloc: Global, script: &Script) -> Result<Core, NoMemory>
         ensures world { IfOk result (λ core. world_of core ≡ opening (calls_in script.now.commands)) }
         ensures members { IfOk result (λ core. members_of core ≡ members_in script.now.commands) }
         ensures steps { IfOk result (λ core. steps_of core ≡ 0) }
+        ensures held { IfOk result (λ core. held_of core ≡ opening_held) }
     {
         let clients = states_of(alloc, script.commands.as_slice())?;
         Ok(Core {
@@ -59,6 +61,7 @@ impl Core {
         ensures same_steps { result ≢ Ok Turned.Stepped → steps_of self.new ≡ steps_of self.old }
         ensures full { (place : _) → result ≡ Ok (Turned.Full place) → AsksFull self.old (number_in actor) place }
         ensures room { result ≡ Ok Turned.Stepped → (ask : Ask) → Some ask ≡ asked_of self.old (number_in actor) → log_full (held_of self.old) ask ≡ false }
+        ensures held { result ≡ Ok Turned.Stepped → (ask : Ask) → Some ask ≡ asked_of self.old (number_in actor) → held_of self.new ≡ held_after self.old (number_in actor) ask }
         ensures many { (place : _) → result ≡ Ok (Turned.Full place) → 1048576 ≤ steps_of self.old }
         ensures same_held { result ≢ Ok Turned.Stepped → held_of self.new ≡ held_of self.old }
         ensures members { members_of self.new ≡ members_of self.old }
@@ -71,7 +74,9 @@ impl Core {
     /// and hands the core back.
     pub fn finish(mut self) -> Result<Run, Core>
         ensures run { IfOk result (λ run. IsRunOf (members_of self) (world_of self) run) }
+        ensures places { IfOk result (λ run. held run.places ≡ held_of self) }
         ensures back { IfErr result (λ core. world_of core ≡ world_of self) }
+        ensures held { IfErr result (λ core. held_of core ≡ held_of self) }
         ensures members { IfErr result (λ core. members_of core ≡ members_of self) }
         ensures steps { IfErr result (λ core. steps_of core ≡ steps_of self) }
     {

@@ -1,11 +1,12 @@
 //! A turn among all clients.
 ghost use Rattle.std.specs.Prelude.{◌≡◌, ◌==◌, ◌≢◌, ◌≤◌, ◌↔◌, ◌+◌, IsTrue, true, false, Ok, Some, ℕ, position, length};
 ghost use Rattle.cfs_ids.specs.declared.ids.Client.{Client};
+ghost use Rattle.cfs_ids.specs.declared.ids.Actor.TheVariants.{Client as ClientActor};
 ghost use Rattle.cfs_steps.specs.declared.ask.Ask.{Ask};
 ghost use Rattle.cfs_steps.specs.Asks.{place_of};
 ghost use Rattle.cfs_rules.specs.Worlds.{turn, next_ask};
 ghost use Rattle.cfs_actor.specs.Clients.{client_of};
-ghost use Rattle.cfs_view.specs.Held.{log_full};
+ghost use Rattle.cfs_view.specs.Held.{log_full, serve};
 ghost use Rattle.cfs_view.specs.Views.{held};
 ghost use Rattle.cfs_core.specs.Clients.{progress_in, members_of, is_member, world_in, CountedIn};
 
@@ -39,6 +40,7 @@ pub fn turn_among(
     ensures room { result ≡ Ok Turned.Stepped → (ask : Ask) → Some ask ≡ next_ask client (progress_in clients.old.items client.0) → log_full (held places.old) ask ≡ false }
     ensures many { (place : _) → result ≡ Ok (Turned.Full place) → 1048576 ≤ length order.old.items }
     ensures same { result ≢ Ok Turned.Stepped → world_in places.new clients.new.items order.new.items ≡ world_in places.old clients.old.items order.old.items }
+    ensures held { result ≡ Ok Turned.Stepped → (ask : Ask) → Some ask ≡ next_ask client (progress_in clients.old.items client.0) → held places.new ≡ (serve (held places.old) (ClientActor client) (progress_in clients.old.items client.0).last ask).held }
     ensures same_held { result ≢ Ok Turned.Stepped → held places.new ≡ held places.old }
     ensures steps { result ≡ Ok Turned.Stepped → length order.new.items ≡ length order.old.items + 1 }
     ensures same_steps { result ≢ Ok Turned.Stepped → length order.new.items ≡ length order.old.items }

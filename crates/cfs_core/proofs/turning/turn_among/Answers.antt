@@ -15,7 +15,7 @@ use Rattle.cfs_core.specs.declared.turned.Turned.TheVariants.{Stepped, Idle, Ful
 use Rattle.cfs_core.specs.Weave.{world_from}
 use Rattle.cfs_core.proofs.States.{members_of-set, no-index}
 use Rattle.cfs_core.proofs.Turns.{stepped-world, same-clients}
-use Rattle.cfs_core.proofs.Among.{stepped-counted, was-progress, was-client}
+use Rattle.cfs_core.proofs.Among.{stepped-counted, stepped-held, was-progress, was-client}
 use Rattle.cfs_core.proofs.Counting.{full-log, many-steps, log-room}
 use Rattle.cfs_core.proofs.turning.turn_among.Goals as goal
 
@@ -60,6 +60,15 @@ returns-clause-room c = λ e ask next.
     log-room (client_of c.index_mut-state.result.now) (held c.args.places.now) (progress_of c.index_mut-state.result.now) ask
     (next ∙ ap (λ (k : Client). next_ask k (progress_in c.args.clients.now.items c.args.client.0)) (sym whose) ∙ ap (λ (p : Progress). next_ask (client_of c.index_mut-state.result.now) p) was)
     (c.turn_client.ensures.room e)
+
+pub returns-clause-held : goal.returns-clause-held
+returns-clause-held c = λ e ask next.
+    let at = rw c.deref.ensures.value at (sym c.in-Some.ensures) in
+    let is = c.index_mut-state.ensures.value in
+    stepped-held (client_of c.index_mut-state.result.now) c.args.client (progress_of c.index_mut-state.result.now) (progress_in c.args.clients.now.items c.args.client.0) (progress_of c.turn_client.new.state)
+      (held c.args.places.now) (held c.turn_client.new.places) (reverse c.args.order.now.items) (reverse c.turn_client.new.order.items) ask (c.turn_client.ensures.stepped e)
+      (was-client c.args.clients.now.items c.in-Some.at c.index_mut-state.result.now c.args.client at is)
+      (was-progress c.args.clients.now.items c.in-Some.at c.index_mut-state.result.now c.args.client at is) next
 
 pub returns-clause-many : goal.returns-clause-many
 returns-clause-many c = λ place e.
