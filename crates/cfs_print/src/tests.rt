@@ -111,15 +111,13 @@ fn add_lines(history: &mut History, alloc: Global) -> Result<(), Fail> {
 fn add_replies(table: &mut ReplyTable, alloc: Global) -> Result<(), Fail> {
     let rows = one_row(alloc)?;
     let replies = [
-        Some(Reply::Moved),
-        Some(Reply::Node(FILE)),
-        Some(rows),
-        Some(Reply::Refused(Errno::Eexist)),
-        None,
+        (1, Some(Reply::Moved)),
+        (2, Some(Reply::Node(FILE))),
+        (3, Some(rows)),
+        (4, Some(Reply::Refused(Errno::Eexist))),
+        (5, None),
     ];
-    let mut number = 0;
-    for reply in replies {
-        number += 1;
+    for (number, reply) in replies {
         table.push(said(number, reply)).map_err(|_| Fail::Memory)?;
     }
     Ok(())

@@ -2,6 +2,7 @@
 use super::{TWO_CREATES, TWO_CREATES_TEXT, outcome_of, prints_in};
 use crate::{Status, replay};
 use cfs_io::{MemSink, MemSource};
+use std::process::Abort;
 use std::test::Fail;
 
 #[test]
@@ -26,7 +27,7 @@ fn a_read_that_fails_at_each_call(rt: HostRuntime) -> Result<(), Fail> {
 }
 
 // The status of a replay of two creates, and the sink. It takes a byte at a write, and the call fails.
-fn cut_off(rt: &HostRuntime, call: u64) -> Result<(Status, MemSink), Fail> {
+fn cut_off(rt: &(impl Abort + AllocGlobal), call: u64) -> Result<(Status, MemSink), Fail> {
     let alloc = rt.alloc();
     let bytes = Vec::from_slice(alloc, TWO_CREATES.as_bytes())?;
     let fails = Vec::from_slice(alloc, &[call])?;
