@@ -66,9 +66,9 @@ returns-clause-held c = λ e ask next.
     let at = rw c.deref.ensures.value at (sym c.in-Some.ensures) in
     let is = c.index_mut-state.ensures.value in
     stepped-held (client_of c.index_mut-state.result.now) c.args.client (progress_of c.index_mut-state.result.now) (progress_in c.args.clients.now.items c.args.client.0) (progress_of c.turn_client.new.state)
-      (held c.args.places.now) (held c.turn_client.new.places) (reverse c.args.order.now.items) (reverse c.turn_client.new.order.items) ask (c.turn_client.ensures.stepped e)
-      (was-client c.args.clients.now.items c.in-Some.at c.index_mut-state.result.now c.args.client at is)
-      (was-progress c.args.clients.now.items c.in-Some.at c.index_mut-state.result.now c.args.client at is) next
+    (held c.args.places.now) (held c.turn_client.new.places) (reverse c.args.order.now.items) (reverse c.turn_client.new.order.items) ask (c.turn_client.ensures.stepped e)
+    (was-client c.args.clients.now.items c.in-Some.at c.index_mut-state.result.now c.args.client at is)
+    (was-progress c.args.clients.now.items c.in-Some.at c.index_mut-state.result.now c.args.client at is) next
 
 pub returns-clause-many : goal.returns-clause-many
 returns-clause-many c = λ place e.
