@@ -1,10 +1,11 @@
 -- The history of a run that turns made of an opening.
-use Rattle.std.proofs.Common.{ℕ, List, reverse, sym, subst}
+use Rattle.std.proofs.Common.{ℕ, List, map, reverse, sym, subst}
 use Rattle.cfs_ids.specs.declared.call.Call.{Call}
 use Rattle.cfs_rules.specs.Histories.{history_of, world_history}
 use Rattle.cfs_rules.specs.Members.{HasCallers, IsRising}
-use Rattle.cfs_rules.specs.Worlds.{opening, run_of}
+use Rattle.cfs_rules.specs.Worlds.{calls_of, client_of, opening, run_of}
 use Rattle.cfs_laws.proofs.Histories.{history_legal, history_final, history_moves}
+use Rattle.cfs_laws.proofs.EachLine.{each-line}
 use Rattle.cfs_core.specs.Finished.{IsRunOf}
 use Rattle.cfs_core.specs.declared.run.Run.{Run}
 use Rattle.cfs_law_reply.specs.Judged.{IsJudged}
@@ -15,6 +16,7 @@ of-world calls turns members rising callers = record {
   legal = history_legal calls turns members rising callers;
   last = history_final calls turns members rising callers;
   moves = history_moves calls turns members rising callers;
+  calls = each-line (run_of turns (opening calls)).run (map (λ c. calls_of (client_of c) ((run_of turns (opening calls)).clients c)) members);
 }
 
 pub of-run : (calls : ℕ → List Call) (turns members : List ℕ) (run : Run) → IsRising members → HasCallers calls members → IsRunOf members (run_of turns (opening calls)) run

@@ -12,7 +12,8 @@ use cfs_ids::NoMemory;
 use std::alloc::Global;
 
 /// The history of a run. Of a run that turns made of an opening, the history is legal, it ends in the tree of the
-/// places, and each move of the run stands in exactly one line. The Err is want of memory.
+/// places, each move of the run stands in exactly one line, and each call that made a step has its line. The Err is want
+/// of memory.
 pub fn history(alloc: Global, run: &Run) -> Result<History, NoMemory>
     ensures { IfOk result (λ items. (calls : ℕ → List Call) (turns members : List ℕ) → IsRising members → HasCallers calls members
         → IsRunOf members (run_of turns (opening calls)) run.now → IsJudged members (run_of turns (opening calls)) items) }

@@ -14,3 +14,4 @@ pub mod Replies
 pub mod Moves
 pub mod Callers
 pub mod Histories
+pub mod EachLine

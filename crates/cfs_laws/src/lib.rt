@@ -2,13 +2,17 @@
 #![tactic(auto)]
 
 ghost use Rattle.std.specs.Prelude.{◌≡◌, ℕ, List};
+ghost use Rattle.cfs_ids.specs.declared.ids.PlaceNo.{PlaceNo};
 ghost use Rattle.cfs_ids.specs.declared.call.Call.{Call};
+ghost use Rattle.cfs_steps.specs.declared.call_done.ClientCalls.{ClientCalls};
+ghost use Rattle.cfs_steps.specs.declared.entry.Entry.{Entry};
 ghost use Rattle.cfs_rules.specs.Members.{HasCallers, IsRising};
 ghost use Rattle.cfs_rules.specs.Facts.{MovesMatch};
-ghost use Rattle.cfs_rules.specs.Histories.{world_history};
+ghost use Rattle.cfs_rules.specs.Histories.{history_of, lines_of, world_history};
 ghost use Rattle.cfs_rules.specs.Legal.{IsLegal, final};
 ghost use Rattle.cfs_rules.specs.Trees.{tree};
 ghost use Rattle.cfs_rules.specs.Worlds.{opening, run_of};
+ghost use Rattle.cfs_laws.specs.EachLine.{HasEachLine};
 
 /// Whatever the clients call and whoever steps next, the history of the run is legal: each line has its point between
 /// the call's first and last own steps, the lines stand in order, one client's calls follow one another, no two moves
@@ -21,4 +25,10 @@ pub fn one_legal_history()
         → final (world_history members (run_of turns (opening calls))) ≡ tree (run_of turns (opening calls)).shard (run_of turns (opening calls)).store }
     ensures moves { (calls : ℕ → List Call) (turns members : List ℕ) → IsRising members → HasCallers calls members
         → MovesMatch (run_of turns (opening calls)).run (world_history members (run_of turns (opening calls))) }
+{}
+
+/// A history has each line of its calls, as often as it stands among them: no call that made a step is lost where the
+/// lines are put in order, and none is made.
+pub fn no_line_is_lost()
+    ensures { (run : List (PlaceNo × Entry)) (calls : List ClientCalls) → HasEachLine (history_of run calls) (lines_of run calls) }
 {}

@@ -26,6 +26,7 @@ of-run script run p form of judged shards stores replies trees steps tally = rec
   legal = judged.legal;
   last = judged.last ∙ sym printed_tree;
   moves = judged.moves;
+  calls = judged.calls;
   history = judged.history;
   tree = printed_tree;
   replies = replies ∙ ap replies_of (of.calls (rising 0 script.commands form.rising).1);

@@ -3,10 +3,11 @@ use Rattle.std.specs.Prelude.{◌≡◌, ℕ, List, length, map}
 use Rattle.cfs_script.specs.declared.script.Script.{Script}
 use Rattle.cfs_print.specs.declared.printed.Printed.{Printed}
 use Rattle.cfs_rules.specs.Facts.{MovesMatch}
-use Rattle.cfs_rules.specs.Histories.{world_history}
+use Rattle.cfs_rules.specs.Histories.{lines_of, world_history}
 use Rattle.cfs_rules.specs.Legal.{IsLegal, final}
 use Rattle.cfs_rules.specs.Trees.{tree, owed_in, strays_in}
 use Rattle.cfs_rules.specs.Worlds.{World, calls_of, client_of, opening, run_of}
+use Rattle.cfs_laws.specs.EachLine.{HasEachLine}
 use Rattle.cfs_core.specs.Clients.{number_in}
 use Rattle.cfs_core.specs.Opening.{calls_in, members_in}
 use Rattle.cfs_run.specs.Replies.{replies_of}
@@ -15,12 +16,13 @@ use Rattle.cfs_run.specs.Replies.{replies_of}
 abbrev pub world_after : Script → World
 world_after script = run_of (map number_in script.turns) (opening (calls_in script.commands))
 
--- What is printed of the world after the turns, for these clients. Its history is legal, and the printed tree is the
--- namespace that it ends in.
+-- What is printed of the world after the turns, for these clients. Its history is legal and has each move and each call,
+-- and the printed tree is the namespace that it ends in.
 pub record IsPrintedOf (members : List ℕ) (w : World) (printed : Printed) : Type 0 where
   pub legal : IsLegal printed.history
   pub last : final printed.history ≡ printed.tree
   pub moves : MovesMatch w.run printed.history
+  pub calls : HasEachLine printed.history (lines_of w.run (map (λ c. calls_of (client_of c) (w.clients c)) members))
   pub history : printed.history ≡ world_history members w
   pub tree : printed.tree ≡ tree w.shard w.store
   pub replies : printed.replies ≡ replies_of (map (λ c. calls_of (client_of c) (w.clients c)) members)
