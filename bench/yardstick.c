@@ -1,8 +1,9 @@
 /* The two times that bench/creates.sh compares, each printed in nanoseconds.
  *
- *   yardstick create N PARENT      creates N files in a new folder below PARENT, with O_CREAT and O_EXCL;
- *                                  the folder is removed again outside the timed part
- *   yardstick replay PROGRAM FILE  runs `PROGRAM replay` from start to end, its input FILE, its output dropped
+ *   yardstick create N EVERY PARENT  creates N files in a new folder below PARENT, with O_CREAT and O_EXCL, and
+ *                                    in place of each EVERY-th a directory, with mkdir (0: none);
+ *                                    the folder is removed again outside the timed part
+ *   yardstick replay PROGRAM FILE    runs `PROGRAM replay` from start to end, its input FILE, its output dropped
  */
 #include <fcntl.h>
 #include <limits.h>
@@ -29,17 +30,27 @@ static void file_name(char *name, size_t room, long i) {
     snprintf(name, room, "f%ld", i);
 }
 
-static void remove_files(int dir, long count, const char *folder) {
+static int is_directory(long i, long every) {
+    return every > 0 && i % every == every - 1;
+}
+
+static void remove_files(int dir, long count, long every, const char *folder) {
     char name[32];
     for (long i = 0; i < count; i++) {
         file_name(name, sizeof name, i);
-        unlinkat(dir, name, 0);
+        unlinkat(dir, name, is_directory(i, every) ? AT_REMOVEDIR : 0);
     }
     close(dir);
     rmdir(folder);
 }
 
-static long long create(long count, const char *parent) {
+static int make_file(int dir, const char *name) {
+    int file = openat(dir, name, O_CREAT | O_EXCL | O_WRONLY, 0600);
+    if (file < 0) return -1;
+    return close(file);
+}
+
+static long long create(long count, long every, const char *parent) {
     char folder[PATH_MAX], name[32];
     snprintf(folder, sizeof folder, "%s/yardstick.XXXXXX", parent);
     if (mkdtemp(folder) == NULL) give_up(parent);
@@ -49,17 +60,16 @@ static long long create(long count, const char *parent) {
     long long start = now();
     for (long i = 0; i < count; i++) {
         file_name(name, sizeof name, i);
-        int file = openat(dir, name, O_CREAT | O_EXCL | O_WRONLY, 0600);
-        if (file < 0) {
+        int made = is_directory(i, every) ? mkdirat(dir, name, 0700) : make_file(dir, name);
+        if (made < 0) {
             perror(name);
-            remove_files(dir, i, folder);
+            remove_files(dir, i, every, folder);
             exit(1);
         }
-        close(file);
     }
     long long end = now();
 
-    remove_files(dir, count, folder);
+    remove_files(dir, count, every, folder);
     return end - start;
 }
 
@@ -91,12 +101,12 @@ static long long replay(const char *program, const char *script) {
 }
 
 int main(int argc, char **argv) {
-    if (argc == 4 && strcmp(argv[1], "create") == 0) {
-        printf("%lld\n", create(atol(argv[2]), argv[3]));
+    if (argc == 5 && strcmp(argv[1], "create") == 0) {
+        printf("%lld\n", create(atol(argv[2]), atol(argv[3]), argv[4]));
     } else if (argc == 4 && strcmp(argv[1], "replay") == 0) {
         printf("%lld\n", replay(argv[2], argv[3]));
     } else {
-        fprintf(stderr, "usage: yardstick create N PARENT | replay PROGRAM FILE\n");
+        fprintf(stderr, "usage: yardstick create N EVERY PARENT | replay PROGRAM FILE\n");
         return 2;
     }
     return 0;

@@ -1,9 +1,11 @@
-//! The line of each status.
+//! The words after the program's name, and the line of each status.
 use crate::fault::Fault;
+use crate::words;
 use cfs_ids::PlaceNo;
 use cfs_run::Status;
 use cfs_script::Fault as ScriptFault;
 use std::alloc::Global;
+use std::env::{Env, FillError};
 use std::test::Fail;
 
 // The line that is written for the status, and no text where none is.
@@ -12,6 +14,49 @@ fn line_of(alloc: Global, status: Status) -> Result<String, Fail> {
         Some(fault) => Ok(format!(in alloc; "{fault}")?),
         None => Ok(String::from_str(alloc, "")?),
     }
+}
+
+const LINE: [&[u8]; 5] = [
+    b"cfs",
+    b"replay",
+    b"sixteen-letters-",
+    b"seventeen-letters",
+    b"\xff",
+];
+
+// An environment with this command line, and no variables.
+struct FiveWords;
+
+impl Env for FiveWords {
+    fn arg(&self, i: usize, buf: &mut [u8]) -> Result<usize, FillError> {
+        let Some(word) = LINE.get(i) else {
+            return Err(FillError::NotPresent);
+        };
+        if word.len() > buf.len() {
+            return Err(FillError::TooLong);
+        }
+        buf[..word.len()].copy_from_slice(word);
+        Ok(word.len())
+    }
+
+    fn var(&self, _name: &str, _buf: &mut [u8]) -> Result<usize, FillError> {
+        Err(FillError::NotPresent)
+    }
+
+    fn var_at(&self, _i: usize, _buf: &mut [u8]) -> Result<usize, FillError> {
+        Err(FillError::NotPresent)
+    }
+}
+
+#[test]
+fn the_words_after_the_name(rt: HostRuntime) -> Result<(), Fail> {
+    let words = words(&FiveWords, rt.alloc())?;
+    let wanted = ["replay", "sixteen-letters-", "", ""];
+    assert_eq!(rt; words.len(), wanted.len());
+    for (word, want) in words.iter().zip(wanted) {
+        assert_eq!(rt; word.as_str(), want);
+    }
+    Ok(())
 }
 
 #[test]

@@ -1,12 +1,13 @@
 -- The progress of a client whose last entry may not yet be worked in.
-use Rattle.std.specs.Prelude.{ℕ, List, Bool, true, false, not, ◌==◌, ◌&&◌, ◌||◌, Option, Some, None}
+use Rattle.std.specs.Prelude.{ℕ, List, [], Bool, true, false, not, ◌==◌, ◌&&◌, ◌||◌, Option, Some, None}
 use Rattle.std.specs.Option.{option_map}
 use Rattle.cfs_ids.specs.declared.ids.Client.{Client}
 use Rattle.cfs_ids.specs.declared.call.Call.{Call}
 use Rattle.cfs_steps.specs.declared.answer.Answer.{Answer}
 use Rattle.cfs_steps.specs.declared.call_done.CallDone.{CallDone}
-use Rattle.cfs_steps.specs.Phases.{Phase, answers, is_going}
-use Rattle.cfs_rules.specs.Worlds.{Progress, hears}
+use Rattle.cfs_steps.specs.Phases.{Phase, Asking, answers, is_going}
+use Rattle.cfs_rules.specs.Worlds.{Progress, Counts, put_index, puts_in, hears}
+use Rattle.cfs_writer.specs.Writers.{is_writing}
 use Rattle.cfs_actor.specs.declared.kept.KeptEntry.{KeptEntry}
 use Rattle.cfs_actor.specs.declared.call_machine.CallMachine.{CallMachine}
 use Rattle.cfs_actor.specs.CallMachines.{client_in, index_in, phase_in}
@@ -16,13 +17,27 @@ abbrev pub with_kept : Option KeptEntry → Progress → Progress
 with_kept None p = p
 with_kept (Some kept) p = hears p kept.place kept.entry
 
-abbrev pub worked_in : Option CallMachine → List Call → Bool → ℕ → List CallDone → Progress
-worked_in current waiting ended last done = record { current = option_map phase_in current; waiting = waiting; ended = ended; last = last; done = done }
+abbrev pub worked_in : Option CallMachine → List Call → Bool → (last puts : ℕ) → List CallDone → Progress
+worked_in current waiting ended last puts done = record { current = option_map phase_in current; waiting = waiting; ended = ended; last = last; puts = puts; done = done }
 
--- the current call is the client's, and its next put is in store 0
-abbrev pub is_own : Client → Option CallMachine → Bool
-is_own client None = true
-is_own client (Some machine) = ((client_in machine).0 == client.0) && (index_in machine == 0)
+-- this many shards and stores
+abbrev pub counts : (shards stores : ℕ) → Counts
+counts shards stores = record { shards = shards; stores = stores }
+
+-- a call that has yet to put its node has the index of that put
+abbrev pub has_index : Counts → Client → (puts : ℕ) → Phase → (index : ℕ) → Bool
+has_index places client puts (Asking call) index = not (is_writing call) || (index == put_index places client puts (Asking call))
+has_index places client puts phase index = true
+
+-- the call has made a step
+abbrev pub is_begun : Phase → Bool
+is_begun (Asking call) = false
+is_begun phase = true
+
+-- the current call is the client's, and puts its node where the client's next put goes
+abbrev pub is_own : Counts → Client → (puts : ℕ) → Option CallMachine → Bool
+is_own places client puts None = true
+is_own places client puts (Some machine) = ((client_in machine).0 == client.0) && has_index places client puts (phase_in machine) (index_in machine)
 
 -- a call that has ended is current only while its last entry is kept, and a kept entry has an answer for the current call
 abbrev pub fits : Option KeptEntry → Option CallMachine → Bool
@@ -35,6 +50,11 @@ fits (Some kept) (Some machine) = not (is_going (phase_in machine)) || answers (
 abbrev pub is_last : Option KeptEntry → ℕ → Bool
 is_last None last = true
 is_last (Some kept) last = last == kept.entry.number
+
+-- how many nodes the kept entry puts
+abbrev pub kept_puts : Option KeptEntry → ℕ
+kept_puts None = 0
+kept_puts (Some kept) = puts_in kept.entry.ask
 
 -- whether a table lists the answer for what a client with this current call asks
 abbrev pub answers_now : Option Phase → Answer → Bool

@@ -1,9 +1,11 @@
 //! The machine of any call.
-ghost use Rattle.std.specs.Prelude.{◌≡◌, IsTrue, IfOk, Some};
+ghost use Rattle.std.specs.Prelude.{◌≡◌, ◌<◌, IsTrue, IfOk, Some};
 ghost use Rattle.cfs_ids.specs.declared.ids.Client.{Client};
 ghost use Rattle.cfs_steps.specs.Asks.{place_of};
 ghost use Rattle.cfs_steps.specs.Phases.{Phase, Asking, ask_of, heard, done_of, is_going, answers};
 ghost use Rattle.cfs_rules.specs.Worlds.{begun_of};
+ghost use Rattle.cfs_reader.specs.Readers.{is_reading};
+ghost use Rattle.cfs_writer.specs.Writers.{is_writing};
 ghost use Rattle.cfs_actor.specs.CallMachines.{client_in, index_in, phase_in};
 
 use cfs_ids::{Call, Client, NoMemory, PlaceNo, Stamp, Ts};
@@ -19,17 +21,22 @@ pub enum CallMachine {
 }
 
 impl CallMachine {
-    /// The call of this client, which has made no step.
-    pub fn start(client: Client, call: Call) -> CallMachine
+    /// The call of this client, which has made no step. A call that writes puts its node in the shard or store with
+    /// the index `put_index`, below 64.
+    pub fn start(client: Client, call: Call, put_index: u32) -> CallMachine
+        requires { put_index < 64 }
         ensures phase { phase_in result ≡ Asking call }
         ensures client { client_in result ≡ client }
-        ensures index { index_in result ≡ 0 }
+        ensures index { IsTrue (is_writing call) → index_in result ≡ put_index }
+        ensures none { IsTrue (is_reading call) → index_in result ≡ 0 }
     {
         match &call {
             Call::Lookup { .. } | Call::List { .. } => {
                 CallMachine::Reader(Reader::start(client, call))
             }
-            Call::Create { .. } => CallMachine::Writer(Writer::start(client, call, 0)),
+            Call::Create { .. } | Call::Mkdir { .. } => {
+                CallMachine::Writer(Writer::start(client, call, put_index))
+            }
         }
     }
 

@@ -1,9 +1,14 @@
+pub mod Alike
 pub mod Among
 pub mod Counting
 pub mod Ends
 pub mod Listed
 pub mod Members
+pub mod Membership
 pub mod Opened
+pub mod Reaching
+pub mod Remaining
+pub mod Settled
 pub mod Shown
 pub mod States
 pub mod Turns

@@ -1,23 +1,26 @@
 -- Each place answers what its table lists for what a client asks.
-use Rattle.std.proofs.Common.{◌≡◌, ℕ, ◌+◌, ◌%◌, List, Bool, true, false, refl, arith}
+use Rattle.std.proofs.Common.{◌≡◌, ℕ, ◌+◌, ◌%◌, ◌<◌, List, Bool, true, false, refl, arith}
 use Rattle.std.specs.Prelude.{Option, Some, None, nat_lt, if◌then◌else◌, ◌==◌}
-use Rattle.std.specs.FinMap.{get}
+use Rattle.std.specs.FinMap.{get, remove}
+use Rattle.std.proofs.lemmas.Nat.{mod_below}
 use Rattle.std.proofs.lemmas.Bool.Decides.{nat_tests}
 use Rattle.cfs_ids.specs.declared.ids.Client.{Client}
 use Rattle.cfs_ids.specs.declared.ids.Stamp.{Stamp}
 use Rattle.cfs_ids.specs.declared.ids.DirId.{DirId}
 use Rattle.cfs_ids.specs.declared.ids.FileId.{FileId}
-use Rattle.cfs_ids.specs.declared.ids.Node.TheVariants.{File}
+use Rattle.cfs_ids.specs.declared.ids.Node.{Node}
+use Rattle.cfs_ids.specs.declared.ids.Node.TheVariants.{Dir, File}
 use Rattle.cfs_ids.specs.declared.ids.Actor.{Actor}
-use Rattle.cfs_ids.specs.declared.call.Call.TheVariants.{Lookup, List as ListCall, Create}
+use Rattle.cfs_ids.specs.declared.call.Call.TheVariants.{Lookup, List as ListCall, Create, Mkdir}
 use Rattle.cfs_ids.specs.Maps.{row_key}
 use Rattle.cfs_steps.specs.declared.ask.Ask.{Ask}
 use Rattle.cfs_steps.specs.declared.contents.Row.{Row}
 use Rattle.cfs_steps.specs.declared.contents.DirRec.{DirRec}
 use Rattle.cfs_steps.specs.declared.contents.FileRec.{FileRec}
+use Rattle.cfs_steps.specs.declared.answer.Answer.TheVariants.{Done, None as NoneAnswer}
 use Rattle.cfs_steps.specs.Phases.{Phase, Asking, Inserting, Settling, TakingBack, Finished, ask_of, answers, answers_first, answers_insert, answers_change, is_going}
-use Rattle.cfs_rules.specs.Places.{Shard, Store, read_row, list_rows, inserted, settled, settle_owner, taken_back, take_owned}
-use Rattle.cfs_rules.specs.Worlds.{Progress, next_ask, asked_next}
+use Rattle.cfs_rules.specs.Places.{Shard, Store, Served, unmoved, with_recs, read_row, list_rows, inserted, settled, settle_owner, settled_dir, settle_dir_owner, taken_back, take_owned, taken_back_dir, take_owned_dir}
+use Rattle.cfs_rules.specs.Worlds.{Counts, AreCounts, IsCount, Progress, put_index, next_ask, asked_next}
 use Rattle.cfs_actor.specs.States.{answers_now, is_going_now}
 use Rattle.cfs_view.specs.Held.{Held, serve}
 
@@ -39,45 +42,85 @@ list_listed : (s : Shard) (dir : DirId) (o : Option DirRec) → answers_first (L
 list_listed s dir None = refl
 list_listed s dir (Some r) = refl
 
-insert_listed : (s : Shard) (at : Stamp) (c : Client) (dir : DirId) (name : List ℕ) (file : FileId) (ts : ℕ) (o : Option DirRec) (q : Option Row) → answers_insert (inserted s at c dir name (File file) ts o q).answer ≡ true
-insert_listed s at c dir name file ts None q = refl
-insert_listed s at c dir name file ts (Some r) (Some row) = refl
-insert_listed s at c dir name file ts (Some r) None = refl
+insert_listed : (s : Shard) (at : Stamp) (c : Client) (dir : DirId) (name : List ℕ) (node : Node) (ts : ℕ) (o : Option DirRec) (q : Option Row) → answers_insert (inserted s at c dir name node ts o q).answer ≡ true
+insert_listed s at c dir name node ts None q = refl
+insert_listed s at c dir name node ts (Some r) (Some row) = refl
+insert_listed s at c dir name node ts (Some r) None = refl
 
-settle_owner_listed : (s : Store) (file : FileId) (r : FileRec) (o : Option Client) → answers_change (settle_owner s file r o).answer ≡ true
-settle_owner_listed s file r None = refl
-settle_owner_listed s file r (Some c) = refl
-
+-- ---- settling a node and taking one back
 settle_listed : (s : Store) (file : FileId) (o : Option FileRec) → answers_change (settled s file o).answer ≡ true
 settle_listed s file None = refl
-settle_listed s file (Some r) = settle_owner_listed s file r r.owner
-
-take_owned_listed : (s : Store) (c : Client) (file : FileId) (o : Option Client) → answers_change (take_owned s c file o).answer ≡ true
-take_owned_listed s c file None = refl
-take_owned_listed s c file (Some d) = by_test (d.0 == c.0)
+settle_listed s file (Some r) = by_owner r.owner
   where
-    by_test : (b : Bool) → answers_change (if b then Rattle.cfs_rules.specs.Places.unmoved (Rattle.std.specs.FinMap.remove s file.0) (Rattle.cfs_steps.specs.declared.answer.Answer.TheVariants.Done None) else Rattle.cfs_rules.specs.Places.unmoved s Rattle.cfs_steps.specs.declared.answer.Answer.TheVariants.None).answer ≡ true
-    by_test true = refl
-    by_test false = refl
+    by_owner : (o : Option Client) → answers_change (settle_owner s file r o).answer ≡ true
+    by_owner None = refl
+    by_owner (Some c) = refl
+
+settle_dir_listed : (s : Shard) (dir : DirId) (o : Option DirRec) → answers_change (settled_dir s dir o).answer ≡ true
+settle_dir_listed s dir None = refl
+settle_dir_listed s dir (Some r) = by_owner r.owner
+  where
+    by_owner : (o : Option Client) → answers_change (settle_dir_owner s dir r o).answer ≡ true
+    by_owner None = refl
+    by_owner (Some c) = refl
+
+either : {C : Type 0} (b : Bool) (x y : C) → answers_change (if b then unmoved x (Done None) else unmoved y NoneAnswer).answer ≡ true
+either true x y = refl
+either false x y = refl
 
 take_back_listed : (s : Store) (c : Client) (file : FileId) (o : Option FileRec) → answers_change (taken_back s c file o).answer ≡ true
 take_back_listed s c file None = refl
-take_back_listed s c file (Some r) = take_owned_listed s c file r.owner
+take_back_listed s c file (Some r) = by_owner r.owner
+  where
+    by_owner : (o : Option Client) → answers_change (take_owned s c file o).answer ≡ true
+    by_owner None = refl
+    by_owner (Some d) = either (d.0 == c.0) (remove s file.0) s
 
-phase_listed : (h : Held) (actor : Actor) (c : Client) (last : ℕ) (phase : Phase) → is_going phase ≡ true → answers phase (serve h actor last (ask_of c 0 phase)).entry.answer ≡ true
-phase_listed h actor c last (Asking (Lookup dir name)) going = rw (in_shard dir.0) (read_listed dir name (get h.shard.rows (row_key dir name)))
-phase_listed h actor c last (Asking (ListCall dir)) going = rw (in_shard dir.0) (list_listed h.shard dir (get h.shard.recs dir.0))
-phase_listed h actor c last (Asking (Create dir name)) going = refl
-phase_listed h actor c last (Inserting dir name file ts first) going = rw (in_shard dir.0) (insert_listed h.shard _ c dir name file ts (get h.shard.recs dir.0) (get h.shard.rows (row_key dir name)))
-phase_listed h actor c last (Settling dir name file ts first at) going = rw (not_shard file.0, in_store file.0) (settle_listed h.store file (get h.store file.0))
-phase_listed h actor c last (TakingBack dir name file errno first at) going = rw (not_shard file.0, in_store file.0) (take_back_listed h.store c file (get h.store file.0))
-phase_listed h actor c last (Finished done) going = cc
+take_back_dir_listed : (s : Shard) (c : Client) (dir : DirId) (o : Option DirRec) → answers_change (taken_back_dir s c dir o).answer ≡ true
+take_back_dir_listed s c dir None = refl
+take_back_dir_listed s c dir (Some r) = by_owner r.owner
+  where
+    by_owner : (o : Option Client) → answers_change (take_owned_dir s c dir o).answer ≡ true
+    by_owner None = refl
+    by_owner (Some d) = either (d.0 == c.0) (with_recs s (remove s.recs dir.0)) s
 
-current_listed : (h : Held) (actor : Actor) (c : Client) (last : ℕ) (ended : Bool) (current : Option Phase) (ask : Ask) → Some ask ≡ asked_next c ended current → is_going_now current ≡ true → answers_now current (serve h actor last ask).entry.answer ≡ true
-current_listed h actor c last true current ask is going = cc
-current_listed h actor c last false None ask is going = refl
-current_listed h actor c last false (Some phase) ask is going = let same : ask ≡ ask_of c 0 phase = cc in rw same (phase_listed h actor c last phase going)
+-- ---- where a client puts its next node
+pub low_index : (count n : ℕ) → IsCount count → n % count < count
+low_index count n k = mod_below n count k.0
 
--- what a client asks is answered as its current call can hear it
-pub listed : (h : Held) (actor : Actor) (c : Client) (last : ℕ) (p : Progress) (ask : Ask) → Some ask ≡ next_ask c p → is_going_now p.current ≡ true → answers_now p.current (serve h actor last ask).entry.answer ≡ true
-listed h actor c last p ask is going = current_listed h actor c last p.ended p.current ask is going
+index_in_shard : (i : ℕ) → i < 64 → nat_lt i 64 ≡ true
+index_in_shard i low = grind (arith, nat_tests, low)
+
+index_above : (i : ℕ) → nat_lt (64 + i) 64 ≡ false
+index_above i = grind (arith, nat_tests)
+
+index_in_store : (i : ℕ) → i < 64 → nat_lt (64 + i) 128 ≡ true
+index_in_store i low = grind (arith, nat_tests, low)
+
+module _ (counts : Counts) (good : AreCounts counts) where
+  phase_listed : (h : Held) (actor : Actor) (c : Client) (last puts : ℕ) (phase : Phase) → is_going phase ≡ true → answers phase (serve h actor last (ask_of c (put_index counts c puts phase) phase)).entry.answer ≡ true
+  phase_listed h actor c last puts (Asking (Lookup dir name)) going = rw (in_shard dir.0) (read_listed dir name (get h.shard.rows (row_key dir name)))
+  phase_listed h actor c last puts (Asking (ListCall dir)) going = rw (in_shard dir.0) (list_listed h.shard dir (get h.shard.recs dir.0))
+  phase_listed h actor c last puts (Asking (Create dir name)) going =
+      let low = low_index counts.stores (c.0 + puts) good.stores in
+      let few = good.stores.1 in
+      rw (index_above ((c.0 + puts) % counts.stores), index_in_store ((c.0 + puts) % counts.stores) (omega arith)) refl
+  phase_listed h actor c last puts (Asking (Mkdir dir name)) going =
+      let low = low_index counts.shards (c.0 + puts) good.shards in
+      let few = good.shards.1 in
+      rw (index_in_shard ((c.0 + puts) % counts.shards) (omega arith)) refl
+  phase_listed h actor c last puts (Inserting dir name node ts first) going = rw (in_shard dir.0) (insert_listed h.shard _ c dir name node ts (get h.shard.recs dir.0) (get h.shard.rows (row_key dir name)))
+  phase_listed h actor c last puts (Settling dir name (File file) ts first at) going = rw (not_shard file.0, in_store file.0) (settle_listed h.store file (get h.store file.0))
+  phase_listed h actor c last puts (Settling dir name (Dir child) ts first at) going = rw (in_shard child.0) (settle_dir_listed h.shard child (get h.shard.recs child.0))
+  phase_listed h actor c last puts (TakingBack dir name (File file) errno first at) going = rw (not_shard file.0, in_store file.0) (take_back_listed h.store c file (get h.store file.0))
+  phase_listed h actor c last puts (TakingBack dir name (Dir child) errno first at) going = rw (in_shard child.0) (take_back_dir_listed h.shard c child (get h.shard.recs child.0))
+  phase_listed h actor c last puts (Finished done) going = cc
+
+  current_listed : (h : Held) (actor : Actor) (c : Client) (last puts : ℕ) (ended : Bool) (current : Option Phase) (ask : Ask) → Some ask ≡ asked_next counts c puts ended current → is_going_now current ≡ true → answers_now current (serve h actor last ask).entry.answer ≡ true
+  current_listed h actor c last puts true current ask is going = cc
+  current_listed h actor c last puts false None ask is going = refl
+  current_listed h actor c last puts false (Some phase) ask is going = let same : ask ≡ ask_of c (put_index counts c puts phase) phase = cc in rw same (phase_listed h actor c last puts phase going)
+
+  -- what a client asks is answered as its current call can hear it
+  pub listed : (h : Held) (actor : Actor) (c : Client) (last : ℕ) (p : Progress) (ask : Ask) → Some ask ≡ next_ask counts c p → is_going_now p.current ≡ true → answers_now p.current (serve h actor last ask).entry.answer ≡ true
+  listed h actor c last p ask is going = current_listed h actor c last p.puts p.ended p.current ask is going

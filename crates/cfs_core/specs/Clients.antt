@@ -1,16 +1,17 @@
 -- The clients of a core, as the world sees them.
-use Rattle.std.specs.Prelude.{ℕ, List, [], ◌∷◌, map, reverse, ◌==◌, Bool, if◌then◌else◌}
-use Rattle.std.specs.List.{list_any}
+use Rattle.std.specs.Prelude.{◌≡◌, ℕ, List, [], ◌∷◌, map, reverse, ◌==◌, ◌&&◌, Bool, true, if◌then◌else◌}
+use Rattle.std.specs.List.{list_all, list_any}
 use Rattle.cfs_ids.specs.declared.ids.PlaceNo.{PlaceNo}
 use Rattle.cfs_ids.specs.declared.ids.Actor.{Actor}
 use Rattle.cfs_ids.specs.declared.ids.Actor.TheVariants.{Client}
-use Rattle.cfs_rules.specs.Worlds.{World, Progress, starts}
+use Rattle.cfs_rules.specs.Worlds.{World, Counts, AreCounts, Progress, starts}
 use Rattle.cfs_view.specs.declared.places.Places.{Places}
-use Rattle.cfs_view.specs.Views.{held}
+use Rattle.cfs_view.specs.Views.{held, counts_of as places_of}
 use Rattle.cfs_core.specs.Weave.{world_from}
 use Rattle.cfs_core.specs.Counted.{IsCounted}
+use Rattle.cfs_core.specs.Reach.{progress_there, places_there}
 use Rattle.cfs_actor.specs.declared.client_state.ClientState.{ClientState}
-use Rattle.cfs_actor.specs.Clients.{client_of, progress_of}
+use Rattle.cfs_actor.specs.Clients.{client_of, counts_of, progress_of}
 
 -- the progress of each client; one without a state has no call
 abbrev pub progress_in : List ClientState → ℕ → Progress
@@ -31,5 +32,14 @@ number_in (Client client) = client.0
 abbrev pub world_in : Places → List ClientState → List PlaceNo → World
 world_in places states order = world_from (reverse order) (held places) (progress_in states)
 
-abbrev pub CountedIn : Places → List ClientState → List PlaceNo → Type 0
-CountedIn places states order = IsCounted (reverse order) (held places) (progress_in states)
+-- the client works with this many shards and stores
+abbrev pub works_with : Counts → ClientState → Bool
+works_with counts state = ((counts_of state).shards == counts.shards) && ((counts_of state).stores == counts.stores)
+
+-- the steps are counted, the clients know how many places there are, and what they ask and what was asked is there
+pub record IsSound (places : Places) (states : List ClientState) (order : List PlaceNo) : Type 0 where
+  pub counted : IsCounted (reverse order) (held places) (progress_in states)
+  pub sized : AreCounts (places_of places)
+  pub alike : list_all (works_with (places_of places)) states ≡ true
+  pub there : (c : ℕ) → progress_there (places_of places) (progress_in states c) ≡ true
+  pub asked : places_there (places_of places) order ≡ true

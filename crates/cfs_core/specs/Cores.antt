@@ -1,13 +1,13 @@
 -- What a core shows: its world, its members, the steps made so far, and whose next step finds a full log.
 use Rattle.std.specs.Prelude.{◌≡◌, ℕ, List, Bool, true, length, Option, Some}
-use Rattle.cfs_ids.specs.declared.ids.Actor.TheVariants.{Client as ClientActor}
 use Rattle.cfs_ids.specs.declared.ids.PlaceNo.{PlaceNo}
 use Rattle.cfs_steps.specs.declared.ask.Ask.{Ask}
 use Rattle.cfs_steps.specs.Asks.{place_of}
-use Rattle.cfs_rules.specs.Worlds.{World, client_of, next_ask}
-use Rattle.cfs_view.specs.Held.{Held, log_full, serve}
-use Rattle.cfs_view.specs.Views.{held}
+use Rattle.cfs_rules.specs.Worlds.{World, Counts, client_of, next_ask}
+use Rattle.cfs_view.specs.Held.{Held, log_full}
+use Rattle.cfs_view.specs.Views.{held, counts_of as places_of}
 use Rattle.cfs_core.specs.Clients as states
+use Rattle.cfs_core.specs.Parts.{held_stepped}
 use Rattle.cfs_core.specs.declared.service.Core.{Core}
 
 abbrev pub world_of : Core → World
@@ -28,12 +28,16 @@ steps_of core = length core.order.items
 abbrev pub held_of : Core → Held
 held_of core = held core.places
 
+-- how many shards and stores there are
+abbrev pub counts_of : Core → Counts
+counts_of core = places_of core.places
+
 abbrev pub asked_of : Core → ℕ → Option Ask
-asked_of core c = next_ask (client_of c) ((world_of core).clients c)
+asked_of core c = next_ask (counts_of core) (client_of c) ((world_of core).clients c)
 
 -- what the places hold after the client's step with this ask
 abbrev pub held_after : Core → ℕ → Ask → Held
-held_after core c ask = (serve (held_of core) (ClientActor (client_of c)) ((world_of core).clients c).last ask).held
+held_after core c ask = held_stepped (held_of core) (client_of c) ((world_of core).clients c).last ask
 
 -- the client's next step is at this place, and the log there has 1,048,576 entries
 pub record AsksFull (core : Core) (c : ℕ) (place : PlaceNo) : Type 0 where

@@ -5,4 +5,5 @@ pub mod Ends
 pub mod Finished
 pub mod Opening
 pub mod Parts
+pub mod Reach
 pub mod Weave

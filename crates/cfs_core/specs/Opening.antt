@@ -2,10 +2,11 @@
 use Rattle.std.specs.Prelude.{◌≡◌, ℕ, List, [], ◌∷◌, map, ◌==◌, if◌then◌else◌}
 use Rattle.cfs_ids.specs.declared.ids.Client.{Client}
 use Rattle.cfs_ids.specs.declared.call.Call.{Call}
-use Rattle.cfs_rules.specs.Worlds.{Progress, starts}
+use Rattle.cfs_rules.specs.Worlds.{Progress, Setup, starts}
 use Rattle.cfs_actor.specs.declared.client_state.ClientState.{ClientState}
 use Rattle.cfs_actor.specs.Clients.{client_of, progress_of}
 use Rattle.cfs_script.specs.declared.command.Command.{Command}
+use Rattle.cfs_script.specs.declared.script.Script.{Script}
 use Rattle.cfs_script.specs.Calls.{call_of}
 
 -- the calls of a client's commands, in order
@@ -15,6 +16,10 @@ calls_in (list ∷ lists) c = if list.0.0 == c then map call_of list.1 else call
 
 abbrev pub members_in : List (Client × List Command) → List ℕ
 members_in lists = map (λ list. list.0.0) lists
+
+-- the setup of a script
+abbrev pub setup_of : Script → Setup
+setup_of script = record { counts = record { shards = script.shards; stores = script.stores }; calls = calls_in script.commands }
 
 -- a client with its progress
 abbrev pub shown : ClientState → Client × Progress

@@ -5,7 +5,7 @@ use Rattle.cfs_ids.specs.declared.ids.PlaceNo.{PlaceNo}
 use Rattle.cfs_ids.specs.declared.ids.Actor.TheVariants.{Client as ClientActor}
 use Rattle.cfs_steps.specs.declared.ask.Ask.{Ask}
 use Rattle.cfs_steps.specs.Asks.{place_of}
-use Rattle.cfs_rules.specs.Worlds.{Progress, next_ask, hears}
+use Rattle.cfs_rules.specs.Worlds.{Counts, Progress, next_ask, hears}
 use Rattle.cfs_view.specs.Held.{Held, Step, serve, full}
 
 -- the places, one client, and the places that were asked so far, the newest first
@@ -22,13 +22,17 @@ turned c part None = part
 turned c part (Some ask) = after_step part ask (serve part.held (ClientActor c) part.progress.last ask)
 
 -- the part after a turn of the client
-abbrev pub turn_part : Client → Part → Part
-turn_part c part = turned c part (next_ask c part.progress)
+abbrev pub turn_part : Counts → Client → Part → Part
+turn_part counts c part = turned c part (next_ask counts c part.progress)
+
+-- what the places hold after the client's step with this ask, the client's last number being so
+unfoldable pub held_stepped : Held → Client → ℕ → Ask → Held
+held_stepped h c last ask = (serve h (ClientActor c) last ask).held
 
 -- whether the place of the next ask serves nothing more
 abbrev pub full_asked : Held → ℕ → Option Ask → Bool
 full_asked h last None = false
 full_asked h last (Some ask) = full h last ask
 
-abbrev pub full_next : Client → Held → Progress → Bool
-full_next c h p = full_asked h p.last (next_ask c p)
+abbrev pub full_next : Counts → Client → Held → Progress → Bool
+full_next counts c h p = full_asked h p.last (next_ask counts c p)

@@ -1,8 +1,10 @@
 //! The clients of a script at their start.
-ghost use Rattle.std.specs.Prelude.{◌≡◌, IfOk, map};
-ghost use Rattle.cfs_rules.specs.Worlds.{starts};
+ghost use Rattle.std.specs.Prelude.{◌≡◌, IfOk, true, map};
+ghost use Rattle.std.specs.List.{list_all};
+ghost use Rattle.cfs_rules.specs.Worlds.{AreCounts, starts};
 ghost use Rattle.cfs_script.specs.Calls.{call_of};
-ghost use Rattle.cfs_actor.specs.Clients.{client_of, progress_of};
+ghost use Rattle.cfs_actor.specs.Clients.{client_of, counts_of, progress_of};
+ghost use Rattle.cfs_core.specs.Clients.{works_with};
 ghost use Rattle.cfs_core.specs.Opening.{StartsAs};
 
 use cfs_actor::{CallQueue, ClientState};
@@ -17,6 +19,10 @@ fn call_of_command(command: &Command) -> Result<Call, NoMemory>
     let dir = DirId(0);
     match command {
         Command::Create(name) => Ok(Call::Create {
+            dir,
+            name: name.copy()?,
+        }),
+        Command::Mkdir(name) => Ok(Call::Mkdir {
             dir,
             name: name.copy()?,
         }),
@@ -39,25 +45,37 @@ fn queue_of(alloc: Global, commands: &[Command]) -> Result<CallQueue, NoMemory>
     Ok(queue)
 }
 
-// A client at its start.
-fn state_of(alloc: Global, client: Client, commands: &CommandList) -> Result<ClientState, NoMemory>
+// A client at its start, which works with so many shards and stores.
+fn state_of(
+    alloc: Global,
+    client: Client,
+    commands: &CommandList,
+    shards: u32,
+    stores: u32,
+) -> Result<ClientState, NoMemory>
+    requires { AreCounts (record { shards = shards; stores = stores }) }
     ensures client { IfOk result (λ state. client_of state ≡ client) }
     ensures progress { IfOk result (λ state. progress_of state ≡ starts (map call_of commands.now)) }
+    ensures counts { IfOk result (λ state. counts_of state ≡ record { shards = shards; stores = stores }) }
 {
     let queue = queue_of(alloc, commands.as_slice())?;
-    Ok(ClientState::new(alloc, client, queue))
+    Ok(ClientState::new(alloc, client, queue, shards, stores))
 }
 
 /// The clients of these lists at their start.
 pub fn states_of(
     alloc: Global,
     lists: &[(Client, CommandList)],
+    shards: u32,
+    stores: u32,
 ) -> Result<Vec<ClientState>, NoMemory>
-    ensures { IfOk result (λ states. StartsAs states.items lists.now) }
+    requires { AreCounts (record { shards = shards; stores = stores }) }
+    ensures starts { IfOk result (λ states. StartsAs states.items lists.now) }
+    ensures alike { IfOk result (λ states. list_all (works_with (record { shards = shards; stores = stores })) states.items ≡ true) }
 {
     let mut states = Vec::new(alloc);
     for list in lists {
-        states.push(state_of(alloc, list.0, &list.1)?)?;
+        states.push(state_of(alloc, list.0, &list.1, shards, stores)?)?;
     }
     Ok(states)
 }

@@ -1,12 +1,15 @@
 //! The end of a run: the entries of the logs in the order in which the places were asked, and the clients' calls.
-ghost use Rattle.std.specs.Prelude.{◌≡◌, ◌-◌, ◌≤◌, ℕ, List, IfOk, OnOk, length, map, reverse, take, slice_get};
+ghost use Rattle.std.specs.Prelude.{◌≡◌, ◌-◌, ◌≤◌, ℕ, List, true, IfOk, OnOk, length, map, reverse, take, slice_get};
 ghost use Rattle.std.specs.Option.{option_copied};
 ghost use Rattle.cfs_ids.specs.declared.ids.PlaceNo.{PlaceNo};
 ghost use Rattle.cfs_steps.specs.declared.entry.Entry.{Entry};
-ghost use Rattle.cfs_view.specs.Views.{held};
+ghost use Rattle.cfs_view.specs.Held.{has_place};
+ghost use Rattle.cfs_actor.specs.Clients.{counts_of as states_counts};
+ghost use Rattle.cfs_view.specs.Views.{held, counts_of};
+ghost use Rattle.cfs_core.specs.Reach.{places_there};
 ghost use Rattle.cfs_core.specs.Ends.{logs_left, IsWithin, placed, calls_of_states};
 ghost use Rattle.cfs_core.specs.Opening.{shown};
-ghost use Rattle.cfs_core.specs.Weave.{first_entry, without_first, taken, left as left_of, woven, logs_of};
+ghost use Rattle.cfs_core.specs.Weave.{first_entry, without_first, taken, left as left_of, woven};
 
 use crate::left::Left;
 use cfs_actor::ClientState;
@@ -42,32 +45,52 @@ fn take_newest(left: &mut usize, entry: Option<&Entry>) -> Result<Option<Entry>,
 
 // Takes the newest of the entries that are left of a place's log.
 fn take_at(places: &Places, left: &mut Left, place: PlaceNo) -> Result<Option<Entry>, NoMemory>
-    requires { IsWithin left.old (held places.now) }
+    requires there { has_place (counts_of places.now) place.0 ≡ true }
+    requires within { IsWithin left.old places.now }
     ensures taken { IfOk result (λ newest. taken place (logs_left left.old places.now) ≡ placed place newest) }
     ensures left { OnOk result (logs_left left.new places.now ≡ left_of place (logs_left left.old places.now)) }
-    ensures within { IsWithin left.new (held places.now) }
+    ensures within { IsWithin left.new places.now }
 {
     if place.0 < 64 {
-        let entry = places.shard().entry(left.shard.saturating_sub(1));
-        take_newest(&mut left.shard, entry)
+        let count = &mut left.shards[place.0 as usize];
+        let entry = places.shards()[place.0 as usize].entry(count.saturating_sub(1));
+        take_newest(count, entry)
     } else if place.0 < 128 {
-        let entry = places.store().entry(left.store.saturating_sub(1));
-        take_newest(&mut left.store, entry)
+        let count = &mut left.stores[place.0 as usize - 64];
+        let entry = places.stores()[place.0 as usize - 64].entry(count.saturating_sub(1));
+        take_newest(count, entry)
     } else {
         let entry = places.roster().entry(left.roster.saturating_sub(1));
         take_newest(&mut left.roster, entry)
     }
 }
 
-/// The run of the logs, the oldest step first.
-pub fn entries_of(alloc: Global, places: &Places, order: &[PlaceNo]) -> Result<EntryList, NoMemory>
-    ensures { IfOk result (λ entries. reverse entries ≡ woven (reverse order.now) (logs_of (held places.now))) }
+// How many entries the logs have.
+fn counted(alloc: Global, places: &Places) -> Result<Left, NoMemory>
+    ensures within { IfOk result (λ left. IsWithin left places.now) }
+    ensures whole { IfOk result (λ left. logs_left left places.now ≡ (held places.now).logs) }
 {
-    let mut left = Left {
-        shard: places.shard().count(),
-        store: places.store().count(),
+    let mut shards = Vec::new(alloc);
+    for shard in places.shards() {
+        shards.push(shard.count())?;
+    }
+    let mut stores = Vec::new(alloc);
+    for store in places.stores() {
+        stores.push(store.count())?;
+    }
+    Ok(Left {
+        shards,
+        stores,
         roster: places.roster().count(),
-    };
+    })
+}
+
+/// The run of the logs, the oldest step first, where each place of the order is there.
+pub fn entries_of(alloc: Global, places: &Places, order: &[PlaceNo]) -> Result<EntryList, NoMemory>
+    requires { places_there (counts_of places.now) order.now ≡ true }
+    ensures { IfOk result (λ entries. reverse entries ≡ woven (reverse order.now) (held places.now).logs) }
+{
+    let mut left = counted(alloc, places)?;
     let mut entries = EntryList::new(alloc);
     let mut at = order.len();
     while at > 0 {
@@ -89,6 +112,7 @@ pub fn calls_of_all(
     clients: &mut Vec<ClientState>,
 ) -> Result<Vec<ClientCalls>, NoMemory>
     ensures same { map shown clients.new.items ≡ map shown clients.old.items }
+    ensures counts { map states_counts clients.new.items ≡ map states_counts clients.old.items }
     ensures calls { IfOk result (λ calls. calls.items ≡ calls_of_states clients.old.items) }
 {
     let mut calls = Vec::new(alloc);

@@ -1,9 +1,9 @@
 //! What is left of the logs.
 
 /// How many entries are left of each log, the oldest ones.
-#[derive(Clone, Copy, Debug, PartialEq, Eq)]
+#[derive(Drop)]
 pub struct Left {
-    pub shard: usize,
-    pub store: usize,
+    pub shards: Vec<usize>,
+    pub stores: Vec<usize>,
     pub roster: usize,
 }

@@ -7,6 +7,8 @@ mod left;
 mod part;
 mod run;
 mod service;
+#[cfg(test)]
+mod tests;
 mod turned;
 mod turning;
 

@@ -1,14 +1,14 @@
 //! Places and clients, turned step by step.
-ghost use Rattle.std.specs.Prelude.{◌≡◌, ◌≢◌, ◌≤◌, ◌↔◌, ◌+◌, IsTrue, true, false, Ok, Some, ℕ, IfOk, IfErr};
+ghost use Rattle.std.specs.Prelude.{◌≡◌, ◌≢◌, ◌≤◌, ◌↔◌, ◌+◌, IsTrue, true, false, Ok, Some, IfOk, IfErr};
 ghost use Rattle.std.proofs.Props.{props};
 ghost use Rattle.cfs_steps.specs.declared.ask.Ask.{Ask};
 ghost use Rattle.cfs_steps.specs.Asks.{place_of};
-ghost use Rattle.cfs_rules.specs.Worlds.{opening, turn};
+ghost use Rattle.cfs_rules.specs.Worlds.{AreCounts, opening, turn};
 ghost use Rattle.cfs_view.specs.Held.{opening_held, log_full};
-ghost use Rattle.cfs_view.specs.Views.{held};
-ghost use Rattle.cfs_core.specs.Clients.{CountedIn, number_in};
+ghost use Rattle.cfs_view.specs.Views.{held, counts_of as places_of};
+ghost use Rattle.cfs_core.specs.Clients.{IsSound, number_in};
 ghost use Rattle.cfs_core.specs.Finished.{IsRunOf};
-ghost use Rattle.cfs_core.specs.Opening.{calls_in, members_in};
+ghost use Rattle.cfs_core.specs.Opening.{setup_of, members_in};
 
 use crate::begin::states_of;
 use crate::finish::{calls_of_all, entries_of};
@@ -28,23 +28,26 @@ pub struct Core {
     places: Places,
     clients: Vec<ClientState>,
     order: Vec<PlaceNo>,
-    ghost counted: { CountedIn places clients.items order.items } by { Prim.hlevel props },
+    ghost sound: { IsSound places clients.items order.items } by { Prim.hlevel props },
 }
 
 impl Core {
-    ghost use Rattle.cfs_core.specs.Cores.{world_of, members_of, is_member, steps_of, held_of, held_after, asked_of, AsksFull};
+    ghost use Rattle.cfs_core.specs.Cores.{world_of, counts_of, members_of, is_member, steps_of, held_of, held_after, asked_of, AsksFull};
 
-    /// The core of a script before its first turn. The Err is want of memory.
+    /// The core of a script of 1 to 64 shards and as many stores, before its first turn. The Err is want of memory.
     pub fn begin(alloc: Global, script: &Script) -> Result<Core, NoMemory>
-        ensures world { IfOk result (λ core. world_of core ≡ opening (calls_in script.now.commands)) }
+        requires { AreCounts (setup_of script.now).counts }
+        ensures world { IfOk result (λ core. world_of core ≡ opening (setup_of script.now)) }
+        ensures counts { IfOk result (λ core. counts_of core ≡ (setup_of script.now).counts) }
         ensures members { IfOk result (λ core. members_of core ≡ members_in script.now.commands) }
         ensures steps { IfOk result (λ core. steps_of core ≡ 0) }
         ensures held { IfOk result (λ core. held_of core ≡ opening_held) }
     {
-        let clients = states_of(alloc, script.commands.as_slice())?;
+        let lists = script.commands.as_slice();
+        let clients = states_of(alloc, lists, script.shards, script.stores)?;
         Ok(Core {
             alloc,
-            places: Places::new(alloc)?,
+            places: Places::new(alloc, script.shards, script.stores)?,
             clients,
             order: Vec::new(alloc),
         })
@@ -54,7 +57,7 @@ impl Core {
     /// place has 1,048,576 entries. After these and after want of memory the core is as before.
     pub fn turn(&mut self, actor: Actor) -> Result<Turned, NoMemory>
         requires { IsTrue (is_member self.old (number_in actor)) }
-        ensures stepped { result ≡ Ok Turned.Stepped → world_of self.new ≡ turn (world_of self.old) (number_in actor) }
+        ensures stepped { result ≡ Ok Turned.Stepped → world_of self.new ≡ turn (counts_of self.old) (world_of self.old) (number_in actor) }
         ensures idle { (result ≡ Ok Turned.Idle) ↔ (((world_of self.old).clients (number_in actor)).ended ≡ true) }
         ensures same { result ≢ Ok Turned.Stepped → world_of self.new ≡ world_of self.old }
         ensures steps { result ≡ Ok Turned.Stepped → steps_of self.new ≡ steps_of self.old + 1 }
@@ -65,6 +68,7 @@ impl Core {
         ensures many { (place : _) → result ≡ Ok (Turned.Full place) → 1048576 ≤ steps_of self.old }
         ensures same_held { result ≢ Ok Turned.Stepped → held_of self.new ≡ held_of self.old }
         ensures members { members_of self.new ≡ members_of self.old }
+        ensures counts { counts_of self.new ≡ counts_of self.old }
     {
         let Actor::Client(client) = actor;
         turn_among(&mut self.places, &mut self.clients, &mut self.order, client)
@@ -75,9 +79,11 @@ impl Core {
     pub fn finish(mut self) -> Result<Run, Core>
         ensures run { IfOk result (λ run. IsRunOf (members_of self) (world_of self) run) }
         ensures places { IfOk result (λ run. held run.places ≡ held_of self) }
+        ensures places_count { IfOk result (λ run. places_of run.places ≡ counts_of self) }
         ensures back { IfErr result (λ core. world_of core ≡ world_of self) }
         ensures held { IfErr result (λ core. held_of core ≡ held_of self) }
         ensures members { IfErr result (λ core. members_of core ≡ members_of self) }
+        ensures counts { IfErr result (λ core. counts_of core ≡ counts_of self) }
         ensures steps { IfErr result (λ core. steps_of core ≡ steps_of self) }
     {
         let Ok(calls) = calls_of_all(self.alloc, &mut self.clients) else {

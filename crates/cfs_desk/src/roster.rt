@@ -1,5 +1,5 @@
 //! How the roster serves an ask.
-ghost use Rattle.std.specs.Prelude.{◌≡◌, ◌↔◌, ◌<◌, ◌+◌, ◌++◌, ◌∷◌, [], max, true, IfOk, IsOk, OnOk, OnErr, Err, length, slice_get};
+ghost use Rattle.std.specs.Prelude.{◌≡◌, ◌↔◌, ◌<◌, ◌+◌, ◌++◌, ◌∷◌, [], true, IfOk, IsOk, OnOk, OnErr, Err, length, slice_get};
 ghost use Rattle.std.specs.Option.{option_copied};
 ghost use Rattle.cfs_rules.specs.Places.{serve_roster, entry_by, number_after, is_full};
 ghost use Rattle.cfs_rules.specs.Trees.{has_ended};

@@ -1,3 +1,5 @@
+pub mod AttributeLemmas
+pub mod Entries
 pub mod MapLemmas
 pub mod NameLemmas
 pub mod Removed

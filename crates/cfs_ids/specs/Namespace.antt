@@ -8,7 +8,7 @@ use Rattle.cfs_ids.specs.declared.ids.Node.{Node}
 use Rattle.cfs_ids.specs.declared.ids.Node.TheVariants.{Dir, File}
 use Rattle.cfs_ids.specs.declared.errno.Errno.TheVariants.{Enoent, Eexist}
 use Rattle.cfs_ids.specs.declared.call.Call.{Call}
-use Rattle.cfs_ids.specs.declared.call.Call.TheVariants.{Lookup, List as ListCall, Create}
+use Rattle.cfs_ids.specs.declared.call.Call.TheVariants.{Lookup, List as ListCall, Create, Mkdir}
 use Rattle.cfs_ids.specs.declared.call.Reply.{Reply}
 use Rattle.cfs_ids.specs.declared.call.Reply.TheVariants.{Moved, Node as NodeReply, Rows, Refused}
 use Rattle.cfs_ids.specs.Maps.{Names, Numbers, how_many}
@@ -68,6 +68,7 @@ abbrev pub answer : Namespace → Call → Reply
 answer n (Lookup dir name) = lookup_in (get n.dirs dir.0) name
 answer n (ListCall dir) = list_of (get n.dirs dir.0)
 answer n (Create dir name) = create_in (get n.dirs dir.0) name
+answer n (Mkdir dir name) = create_in (get n.dirs dir.0) name
 
 -- ---- what a move leaves
 abbrev pub with_name : Option Directory → List ℕ → Node → ℕ → Directory
@@ -80,20 +81,37 @@ created n dir name file ts = record {
   files = insert n.files file.0 (record { size = 0; time = ts });
 }
 
+abbrev pub made_dir : Namespace → DirId → List ℕ → DirId → ℕ → Namespace
+made_dir n dir name child ts = record {
+  dirs = insert (insert n.dirs dir.0 (with_name (get n.dirs dir.0) name (Dir child) ts)) child.0 (record { names = empty; time = ts });
+  files = n.files;
+}
+
 -- the namespace after a call that moved, with the node that it made and its time
 abbrev pub after : Namespace → Call → Option Node → ℕ → Namespace
 after n (Create dir name) (Some (File file)) ts = created n dir name file ts
+after n (Mkdir dir name) (Some (Dir child)) ts = made_dir n dir name child ts
 after n _ _ ts = n
 
 -- the call moves, and what it makes is a new node of its kind
 abbrev pub IsDefined : Namespace → Call → Option Node → Type 0
 IsDefined n (Create dir name) (Some (File file)) = (answer n (Create dir name) ≡ Moved) × (get n.files file.0 ≡ None)
+IsDefined n (Mkdir dir name) (Some (Dir child)) = (answer n (Mkdir dir name) ≡ Moved) × (get n.dirs child.0 ≡ None)
 IsDefined n _ _ = ⊥
 
--- ---- files without a name
+-- ---- nodes without a name
 abbrev pub names_file : ℕ → Node → Bool
 names_file f (File file) = file.0 == f
 names_file f (Dir dir) = false
+
+abbrev pub names_dir : ℕ → Node → Bool
+names_dir d (File file) = false
+names_dir d (Dir dir) = dir.0 == d
+
+-- whether the two nodes are one
+abbrev pub is_node : Node → Node → Bool
+is_node (File file) other = names_file file.0 other
+is_node (Dir dir) other = names_dir dir.0 other
 
 -- whether a list names the file
 abbrev pub is_listed : Namespace → ℕ → Bool

@@ -12,10 +12,12 @@ use crate::rows::RowList;
 pub enum Call {
     /// The node of a name (POSIX.1-2017, Base Definitions, 4.13 Pathname Resolution, one component).
     Lookup { dir: DirId, name: Name },
-    /// The rows of a directory (POSIX.1-2017, readdir).
+    /// The rows of a directory (POSIX.1-2017, opendir and readdir).
     List { dir: DirId },
     /// A new file (POSIX.1-2017, open with O_CREAT and O_EXCL).
     Create { dir: DirId, name: Name },
+    /// A new directory (POSIX.1-2017, mkdir).
+    Mkdir { dir: DirId, name: Name },
 }
 
 impl Call {

@@ -1,6 +1,7 @@
 //! The words of the service: identifiers, names, times, calls and their replies.
 #![tactic(auto)]
 
+mod attributes;
 mod call;
 mod errno;
 mod ids;
@@ -11,6 +12,7 @@ mod rows;
 mod tests;
 mod time;
 
+pub use attributes::{Delta, DirAttr, any_cut_folds_alike, any_order_folds_alike, fold};
 pub use call::{Call, Reply};
 pub use errno::{Errno, errno_of, errno_text};
 pub use ids::{Actor, At, Client, DirId, FileId, Node, PlaceNo, Stamp};

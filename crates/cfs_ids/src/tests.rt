@@ -1,7 +1,7 @@
 //! Each call once, on values typed by hand.
 use crate::{
-    Call, DirId, Errno, FileId, Name, NameFault, Node, Reply, RowList, errno_of, errno_text, later,
-    number_of,
+    Call, Delta, DirAttr, DirId, Errno, FileId, Name, NameFault, Node, Reply, RowList, errno_of,
+    errno_text, fold, later, number_of,
 };
 use std::test::Fail;
 
@@ -82,4 +82,30 @@ fn calls(rt: HostRuntime) -> Result<(), Fail> {
     let call = Call::List { dir: DirId(5) };
     assert!(rt; matches!(call.copy()?, Call::List { dir: DirId(5) }));
     Ok(())
+}
+
+#[test]
+fn deltas_change_the_counts_and_the_time_is_the_greatest(rt: HostRuntime) {
+    let base = DirAttr {
+        children: 2,
+        subdirs: 1,
+        time: 5,
+    };
+    let one_more = Delta {
+        children: 1,
+        subdirs: 0,
+        time: 3,
+    };
+    let two_less = Delta {
+        children: -2,
+        subdirs: -1,
+        time: 9,
+    };
+    let after = DirAttr {
+        children: 1,
+        subdirs: 0,
+        time: 9,
+    };
+    assert_eq!(rt; fold(base, &[one_more, two_less]), after);
+    assert_eq!(rt; fold(base, &[]), base);
 }

@@ -1,5 +1,5 @@
 -- What a sink has taken after several writes.
-use Rattle.std.proofs.Common.{◌≡◌, ℕ, ◌<◌, suc, List, [], ◌++◌, Some, None, ap, sym, ◌∙◌, append_assoc, append-nil, take, drop, get_or, length, drop-cons}
+use Rattle.std.proofs.Common.{◌≡◌, ℕ, ◌<◌, suc, List, ◌++◌, Some, None, ap, sym, ◌∙◌, append_assoc, take, drop, get_or, length, drop-cons}
 use Rattle.std.specs.List.{flat_map}
 use Rattle.std.proofs.lemmas.List.{take-append-drop}
 use Rattle.std.proofs.lemmas.List.Concat.{flat_map-append}
@@ -25,10 +25,6 @@ Appends-kept (Some x) (Some y) (Some z) xs h i = i ∙ h
 pub AppendsFront-kept : (a b c : Option (List ℕ)) (i : ℕ) (xs : List ℕ) → Appends a b (take i xs) → Keeps b c → AppendsFront a c xs
 AppendsFront-kept a b c i xs h k = record { front = take i xs; back = drop i xs; whole = sym (take-append-drop i xs); taken = Appends-kept a b c (take i xs) h k }
 
--- all of the text is a front of it
-pub AppendsFront-all : (a b : Option (List ℕ)) (xs : List ℕ) → Appends a b xs → AppendsFront a b xs
-AppendsFront-all a b xs h = record { front = xs; back = []; whole = sym (append-nil xs); taken = h }
-
 -- a front of the first of two texts
 pub AppendsFront-first : (a b : Option (List ℕ)) (xs ys : List ℕ) → AppendsFront a b xs → AppendsFront a b (xs ++ ys)
 AppendsFront-first a b xs ys h = record { front = h.front; back = h.back ++ ys; whole = ap (λ l. l ++ ys) h.whole ∙ append_assoc h.front h.back ys; taken = h.taken }
@@ -41,9 +37,4 @@ AppendsFront-next a b c xs ys h i = record { front = xs ++ i.front; back = i.bac
 pub flat_map-at : {X : Type 0} (f : X → List ℕ) (xs : List X) (i : ℕ) (d : X) → i < length xs → flat_map f xs ≡ flat_map f (take i xs) ++ (f (get_or xs i d) ++ flat_map f (drop (suc i) xs))
 flat_map-at f xs i d h = ap (flat_map f) (sym (take-append-drop i xs)) ∙ flat_map-append f (take i xs) (drop i xs) ∙ ap (λ l. flat_map f (take i xs) ++ flat_map f l) (drop-cons xs i d h)
 
--- the parts before this one, and a front of this one
-pub AppendsFront-at : {X : Type 0} (f : X → List ℕ) (xs : List X) (i : ℕ) (d : X) (a b c : Option (List ℕ)) → i < length xs → Appends a b (flat_map f (take i xs)) → AppendsFront b c (f (get_or xs i d)) → AppendsFront a c (flat_map f xs)
-AppendsFront-at f xs i d a b c h p q =
-    rw (flat_map-at f xs i d h) (AppendsFront-next a b c _ _ p (AppendsFront-first b c _ _ q))
-
-pub ruleset writing = (Appends-append, AppendsFront-kept, AppendsFront-all, AppendsFront-first, AppendsFront-next, AppendsFront-at)
+pub ruleset writing = (Appends-append, AppendsFront-kept, AppendsFront-first, AppendsFront-next)

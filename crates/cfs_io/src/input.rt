@@ -3,10 +3,9 @@ ghost use Rattle.std.specs.Prelude.{◌≤◌, ◌<◌, ◌^◌, IfOk, IsErrOf};
 ghost use Rattle.cfs_io.specs.Causes.{Rose};
 ghost use Rattle.cfs_io.specs.Input.{ReadsWithin};
 
+use crate::pieces::PIECE;
 use crate::traits::{Failed, Source};
 use std::alloc::Global;
-
-const PIECE: usize = 4096;
 
 /// Why the input was not read.
 #[derive(Clone, Copy, Debug, PartialEq, Eq)]

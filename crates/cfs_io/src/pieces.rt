@@ -1,5 +1,8 @@
-//! What a source in memory moves at one read.
+//! The bytes that move at one read.
 ghost use Rattle.std.specs.Prelude.{◌≡◌, ◌≤◌, ◌<◌, [], take, length};
+
+/// The most bytes that are asked of a source at one read.
+pub const PIECE: usize = 4096;
 
 // Copies a first piece of `left` to the front of `buf`, and says how long it is.
 pub fn move_piece(left: &[u8], piece: usize, buf: &mut [u8]) -> usize

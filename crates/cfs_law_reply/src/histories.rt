@@ -1,9 +1,8 @@
 //! The history of a run.
-ghost use Rattle.std.specs.Prelude.{◌≡◌, ℕ, List, IfOk};
-ghost use Rattle.cfs_ids.specs.declared.call.Call.{Call};
+ghost use Rattle.std.specs.Prelude.{ℕ, List, IfOk};
 ghost use Rattle.cfs_core.specs.Finished.{IsRunOf};
 ghost use Rattle.cfs_rules.specs.Members.{HasCallers, IsRising};
-ghost use Rattle.cfs_rules.specs.Worlds.{opening, run_of};
+ghost use Rattle.cfs_rules.specs.Worlds.{Setup, IsSetup, played};
 ghost use Rattle.cfs_law_reply.specs.Judged.{IsJudged};
 
 use cfs_core::Run;
@@ -11,12 +10,12 @@ use cfs_history::History;
 use cfs_ids::NoMemory;
 use std::alloc::Global;
 
-/// The history of a run. Of a run that turns made of an opening, the history is legal, it ends in the tree of the
+/// The history of a run. Of a run that turns made of the opening of a setup, the history is legal, it ends in the tree of the
 /// places, each move of the run stands in exactly one line, and each call that made a step has its line. The Err is want
 /// of memory.
 pub fn history(alloc: Global, run: &Run) -> Result<History, NoMemory>
-    ensures { IfOk result (λ items. (calls : ℕ → List Call) (turns members : List ℕ) → IsRising members → HasCallers calls members
-        → IsRunOf members (run_of turns (opening calls)) run.now → IsJudged members (run_of turns (opening calls)) items) }
+    ensures { IfOk result (λ items. (setup : Setup) → IsSetup setup → (turns members : List ℕ) → IsRising members → HasCallers setup.calls members
+        → IsRunOf members (played setup turns) run.now → IsJudged members (played setup turns) items) }
 {
     History::of(alloc, &run.entries, run.calls.as_slice())
 }

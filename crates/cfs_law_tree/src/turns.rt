@@ -1,12 +1,11 @@
 //! Lists of turns.
-ghost use Rattle.std.specs.Prelude.{◌≡◌, ◌≢◌, ◌≤◌, ◌+◌, Ok, ℕ, List, IsTrue, length, map, take};
+ghost use Rattle.std.specs.Prelude.{◌≡◌, ◌≢◌, ◌≤◌, ◌+◌, Ok, ℕ, List, IsTrue, length, map};
 ghost use Rattle.std.specs.List.{list_all};
-ghost use Rattle.cfs_ids.specs.declared.call.Call.{Call};
 ghost use Rattle.cfs_rules.specs.Facts.{CountsHold, AttributesHold};
-ghost use Rattle.cfs_rules.specs.Worlds.{opening, run_of};
+ghost use Rattle.cfs_rules.specs.Worlds.{Setup, run_of};
 ghost use Rattle.cfs_core.specs.Clients.{number_in};
-ghost use Rattle.cfs_core.specs.Cores.{world_of, members_of, steps_of};
-ghost use Rattle.cfs_law_tree.specs.Drives.{is_turn_of, StopsIn, StopsFull};
+ghost use Rattle.cfs_core.specs.Cores.{counts_of, world_of, members_of, steps_of};
+ghost use Rattle.cfs_law_tree.specs.Drives.{is_turn_of, IsPlayed, StopsIn, StopsFull, world_at};
 
 use cfs_core::{Core, Turned};
 use cfs_ids::{NoMemory, PlaceNo};
@@ -25,18 +24,17 @@ pub enum Driven {
 /// log. On Full and on want of memory the core is that of the turns before.
 pub fn drive(core: &mut Core, turns: &TurnList) -> Result<Driven, NoMemory>
     requires { IsTrue (list_all (is_turn_of (members_of core.old)) turns.now) }
-    ensures done { result ≡ Ok Driven.Done → world_of core.new ≡ run_of (map number_in turns.now) (world_of core.old) }
-    ensures stopped { result ≢ Ok Driven.Done → StopsIn (map number_in turns.now) (world_of core.old) (world_of core.new) }
-    ensures full { (place : _) → result ≡ Ok (Driven.Full place) → StopsFull turns.now (world_of core.old) core.new place }
+    ensures done { result ≡ Ok Driven.Done → world_of core.new ≡ run_of (counts_of core.old) (map number_in turns.now) (world_of core.old) }
+    ensures stopped { result ≢ Ok Driven.Done → StopsIn (counts_of core.old) (map number_in turns.now) (world_of core.old) (world_of core.new) }
+    ensures full { (place : _) → result ≡ Ok (Driven.Full place) → StopsFull (counts_of core.old) turns.now (world_of core.old) core.new place }
     ensures many { (place : _) → result ≡ Ok (Driven.Full place) → 1048576 ≤ steps_of core.new }
     ensures steps { steps_of core.new ≤ steps_of core.old + length turns.now }
     ensures members { members_of core.new ≡ members_of core.old }
+    ensures places { counts_of core.new ≡ counts_of core.old }
 
     // At every step of a run each directory counts its rows, and each row's node has a record.
-    ensures counts { (calls : ℕ → List Call) (before : List ℕ) → world_of core.old ≡ run_of before (opening calls)
-        → (n : ℕ) → CountsHold (run_of (take n (map number_in turns.now)) (world_of core.old)).shard }
-    ensures attributes { (calls : ℕ → List Call) (before : List ℕ) → world_of core.old ≡ run_of before (opening calls)
-        → (n : ℕ) → AttributesHold (run_of (take n (map number_in turns.now)) (world_of core.old)).shard (run_of (take n (map number_in turns.now)) (world_of core.old)).store }
+    ensures counts { (setup : Setup) (before : List ℕ) → IsPlayed setup before core.old → (n : ℕ) → CountsHold (world_at core.old turns.now n).shard }
+    ensures attributes { (setup : Setup) (before : List ℕ) → IsPlayed setup before core.old → (n : ℕ) → AttributesHold (world_at core.old turns.now n).shard (world_at core.old turns.now n).store }
 {
     for actor in turns.as_slice() {
         match core.turn(*actor)? {

@@ -6,14 +6,13 @@ use Rattle.cfs_ids.specs.declared.ids.Stamp.{Stamp}
 use Rattle.cfs_ids.specs.declared.ids.PlaceNo.{PlaceNo}
 use Rattle.cfs_ids.specs.declared.ids.Node.{Node}
 use Rattle.cfs_ids.specs.declared.call.Call.{Call}
-use Rattle.cfs_ids.specs.declared.call.Call.TheVariants.{Create}
 use Rattle.cfs_steps.specs.declared.entry.Entry.{Entry}
 use Rattle.cfs_steps.specs.declared.moves.Moved.{Moved}
 use Rattle.cfs_steps.specs.declared.moves.Moved.TheVariants.{Move}
 use Rattle.cfs_steps.specs.declared.moves.Move.{Move as MoveFacts}
 use Rattle.cfs_steps.specs.declared.call_done.CallDone.{CallDone}
 use Rattle.cfs_steps.specs.declared.line.Line.{Line}
-use Rattle.cfs_steps.specs.Phases.{Phase, Asking, Inserting, Settling, TakingBack, Finished}
+use Rattle.cfs_steps.specs.Phases.{Phase, Asking, Inserting, Settling, TakingBack, Finished, maker}
 use Rattle.cfs_rules.specs.Worlds.{Progress, client_of}
 use Rattle.cfs_rules.specs.Histories.{position_of, move_from, unfinished, begun_line}
 use Rattle.cfs_rules.specs.Legal.{Follows}
@@ -65,9 +64,9 @@ facts_begun run c lines call first h own begun (Some found) e placed =
 facts_of : (run : List (PlaceNo × Entry)) (c : ℕ) (done : List CallDone) (current : Option Phase) → LinesHold run (done_lines run c done) → PhasePast run c (done_lines run c done) current → OwnFacts run c (own_lines run c done current)
 facts_of run c done None h p = facts_done run c (done_lines run c done) h (own_done run c done)
 facts_of run c done (Some (Asking call)) h p = facts_done run c (done_lines run c done) h (own_done run c done)
-facts_of run c done (Some (Inserting dir name file ts first)) h p = facts_begun run c (done_lines run c done) (Create dir name) first h (own_done run c done) p.begun None p.none tt
-facts_of run c done (Some (Settling dir name file ts first at)) h p = facts_begun run c (done_lines run c done) (Create dir name) first h (own_done run c done) p.begun (Some _) p.found p.order
-facts_of run c done (Some (TakingBack dir name file errno first at)) h p = facts_begun run c (done_lines run c done) (Create dir name) first h (own_done run c done) p.begun None p.none tt
+facts_of run c done (Some (Inserting dir name node ts first)) h p = facts_begun run c (done_lines run c done) (maker dir name node) first h (own_done run c done) p.begun None p.none tt
+facts_of run c done (Some (Settling dir name node ts first at)) h p = facts_begun run c (done_lines run c done) (maker dir name node) first h (own_done run c done) p.begun (Some _) p.found p.order
+facts_of run c done (Some (TakingBack dir name node errno first at)) h p = facts_begun run c (done_lines run c done) (maker dir name node) first h (own_done run c done) p.begun None p.none tt
 facts_of run c done (Some (Finished d)) h p = absurd p
 
 -- ---- all lines

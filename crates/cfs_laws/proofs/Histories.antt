@@ -1,9 +1,8 @@
 -- The history of every run is legal, ends in the tree of the places, and has each move once.
 use Rattle.std.proofs.Common.{◌≡◌, ℕ, List, length, sym, ◌∙◌}
-use Rattle.cfs_ids.specs.declared.call.Call.{Call}
 use Rattle.cfs_ids.specs.Namespace.{empty_root}
 use Rattle.cfs_steps.specs.declared.line.Line.{Line}
-use Rattle.cfs_rules.specs.Worlds.{World, opening, run_of}
+use Rattle.cfs_rules.specs.Worlds.{World, Setup, IsSetup, played}
 use Rattle.cfs_rules.specs.Trees.{tree}
 use Rattle.cfs_rules.specs.Facts.{space, LinesMatch, MovesMatch}
 use Rattle.cfs_rules.specs.Known.{Known}
@@ -54,18 +53,18 @@ module _ (w : World) (known : Known w) (past : Past w) (members : List ℕ) (ris
   moves_of : MovesMatch w.run (world_history members w)
   moves_of = moves_match w.run lines told
 
-module _ (calls : ℕ → List Call) (turns members : List ℕ) (rising : IsRising members) (has : HasCallers calls members) where
-  past_now : Past (run_of turns (opening calls))
-  past_now = past_of calls turns (known_of calls)
+module _ (setup : Setup) (good : IsSetup setup) (turns members : List ℕ) (rising : IsRising members) (has : HasCallers setup.calls members) where
+  past_now : Past (played setup turns)
+  past_now = past_of setup good turns (known_of setup good)
 
-  movers_now : (q : ℕ) → HasMover members (moved_in (run_of turns (opening calls)).run q)
-  movers_now = let w = run_of turns (opening calls) in mover_of calls w.run w.clients members (idle_of calls turns) has past_now.clients
+  movers_now : (q : ℕ) → HasMover members (moved_in (played setup turns).run q)
+  movers_now = let w = played setup turns in mover_of setup w.run w.clients members (idle_of setup turns) has past_now.clients
 
-  pub history_legal : IsLegal (world_history members (run_of turns (opening calls)))
-  history_legal = legal_of (run_of turns (opening calls)) (known_of calls turns) past_now members rising movers_now
+  pub history_legal : IsLegal (world_history members (played setup turns))
+  history_legal = legal_of (played setup turns) (known_of setup good turns) past_now members rising movers_now
 
-  pub history_final : final (world_history members (run_of turns (opening calls))) ≡ tree (run_of turns (opening calls)).shard (run_of turns (opening calls)).store
-  history_final = final_of (run_of turns (opening calls)) (known_of calls turns) past_now members rising movers_now
+  pub history_final : final (world_history members (played setup turns)) ≡ tree (played setup turns).shard (played setup turns).store
+  history_final = final_of (played setup turns) (known_of setup good turns) past_now members rising movers_now
 
-  pub history_moves : MovesMatch (run_of turns (opening calls)).run (world_history members (run_of turns (opening calls)))
-  history_moves = moves_of (run_of turns (opening calls)) (known_of calls turns) past_now members rising movers_now
+  pub history_moves : MovesMatch (played setup turns).run (world_history members (played setup turns))
+  history_moves = moves_of (played setup turns) (known_of setup good turns) past_now members rising movers_now

@@ -4,12 +4,10 @@ use Rattle.std.specs.Prelude.{if◌then◌else◌, ◌==◌, Option, Some, None}
 use Rattle.cfs_ids.specs.declared.ids.Stamp.{Stamp}
 use Rattle.cfs_ids.specs.declared.ids.At.TheVariants.{Step, Before}
 use Rattle.cfs_ids.specs.declared.ids.DirId.{DirId}
-use Rattle.cfs_ids.specs.declared.ids.FileId.{FileId}
 use Rattle.cfs_ids.specs.declared.ids.PlaceNo.{PlaceNo}
-use Rattle.cfs_ids.specs.declared.ids.Node.TheVariants.{File}
+use Rattle.cfs_ids.specs.declared.ids.Node.{Node}
 use Rattle.cfs_ids.specs.declared.errno.Errno.{Errno}
 use Rattle.cfs_ids.specs.declared.call.Call.{Call}
-use Rattle.cfs_ids.specs.declared.call.Call.TheVariants.{Create}
 use Rattle.cfs_ids.specs.declared.call.Reply.{Reply}
 use Rattle.cfs_ids.specs.declared.call.Reply.TheVariants.{Moved as MovedReply, Node as NodeReply, Rows as RowsReply, Refused}
 use Rattle.cfs_ids.specs.Namespace.{answer}
@@ -17,7 +15,7 @@ use Rattle.cfs_steps.specs.declared.entry.Entry.{Entry}
 use Rattle.cfs_steps.specs.declared.moves.Move.{Move as MoveFacts}
 use Rattle.cfs_steps.specs.declared.call_done.CallDone.{CallDone}
 use Rattle.cfs_steps.specs.declared.line.Line.{Line}
-use Rattle.cfs_steps.specs.Phases.{Phase, Inserting, Settling, TakingBack}
+use Rattle.cfs_steps.specs.Phases.{Phase, Inserting, Settling, TakingBack, maker}
 use Rattle.cfs_rules.specs.Worlds.{client_of, begun_of, first_of}
 use Rattle.cfs_rules.specs.Histories.{position_of, line_of, outcome_of, move_from, unfinished, begun_line, begun_lines}
 use Rattle.cfs_rules.specs.Legal.{Follows, Positions}
@@ -115,29 +113,29 @@ finish_replied run c done current calls call first at last reply h is begun at_t
     (λ q. none_if (position_of at run == q) _ (replied_keys (line_of run (client_of c) d) reply is) ∙ sym (none q))
 
 -- ---- a call that ends with its move
-pub finish_moved : (run : List (PlaceNo × Entry)) (c : ℕ) (done : List CallDone) (calls : List Call) (dir : DirId) (name : List ℕ) (file : FileId) (ts : ℕ) (first at last : Stamp)
-    → ClientPast run c done (Some (Settling dir name file ts first at))
+pub finish_moved : (run : List (PlaceNo × Entry)) (c : ℕ) (done : List CallDone) (calls : List Call) (dir : DirId) (name : List ℕ) (node : Node) (ts : ℕ) (first at last : Stamp)
+    → ClientPast run c done (Some (Settling dir name node ts first at))
     → stands last run ≡ true → position_of at run ≤ position_of last run
-    → ClientPast run c (done ++ record { call = Create dir name; first = first; at = Step at; last = last; reply = MovedReply; ts = ts; made = Some (File file) } ∷ []) (first_of calls)
-finish_moved run c done calls dir name file ts first at last h last_there to =
-    let settling : IsSettling run c (done_lines run c done) file ts first at = h.phase in
-    let d : CallDone = record { call = Create dir name; first = first; at = Step at; last = last; reply = MovedReply; ts = ts; made = Some (File file) } in
+    → ClientPast run c (done ++ record { call = maker dir name node; first = first; at = Step at; last = last; reply = MovedReply; ts = ts; made = Some node } ∷ []) (first_of calls)
+finish_moved run c done calls dir name node ts first at last h last_there to =
+    let settling : IsSettling run c (done_lines run c done) node ts first at = h.phase in
+    let d : CallDone = record { call = maker dir name node; first = first; at = Step at; last = last; reply = MovedReply; ts = ts; made = Some node } in
     let first_within = position-within first run settling.begun.there in
     let last_within = position-within last run last_there in
-    finish run c done (Some (Settling dir name file ts first at)) calls d h
+    finish run c done (Some (Settling dir name node ts first at)) calls d h
     (record { first = settling.begun.there; at = settling.there; last = last_there })
     (settling.order, to)
     (first_within, last_within)
     settling.begun.after
     tt
-    (λ q. ap (λ found. keys_at q (unfinished (client_of c) (Create dir name) (position_of first run) found ∷ [])) (sym settling.found))
+    (λ q. ap (λ found. keys_at q (unfinished (client_of c) (maker dir name node) (position_of first run) found ∷ [])) (sym settling.found))
 
 -- ---- a create that was refused
-pub refuse : (run : List (PlaceNo × Entry)) (c : ℕ) (done : List CallDone) (dir : DirId) (name : List ℕ) (file : FileId) (ts : ℕ) (errno : Errno) (first at : Stamp)
-    → ClientPast run c done (Some (Inserting dir name file ts first)) → stands at run ≡ true → position_of first run ≤ position_of at run
-    → answer (space_at run (position_of at run)) (Create dir name) ≡ Refused errno
-    → ClientPast run c done (Some (TakingBack dir name file errno first at))
-refuse run c done dir name file ts errno first at h there le answered =
+pub refuse : (run : List (PlaceNo × Entry)) (c : ℕ) (done : List CallDone) (dir : DirId) (name : List ℕ) (node : Node) (ts : ℕ) (errno : Errno) (first at : Stamp)
+    → ClientPast run c done (Some (Inserting dir name node ts first)) → stands at run ≡ true → position_of first run ≤ position_of at run
+    → answer (space_at run (position_of at run)) (maker dir name node) ≡ Refused errno
+    → ClientPast run c done (Some (TakingBack dir name node errno first at))
+refuse run c done dir name node ts errno first at h there le answered =
     let inserting : IsInserting run c (done_lines run c done) first = h.phase in
     record {
       there = h.there;

@@ -5,12 +5,10 @@ use Rattle.std.proofs.lemmas.Bool.Decides.{nat_tests}
 use Rattle.cfs_ids.specs.declared.ids.Client.{Client}
 use Rattle.cfs_ids.specs.declared.ids.Stamp.{Stamp}
 use Rattle.cfs_ids.specs.declared.ids.DirId.{DirId}
-use Rattle.cfs_ids.specs.declared.ids.FileId.{FileId}
 use Rattle.cfs_ids.specs.declared.ids.PlaceNo.{PlaceNo}
-use Rattle.cfs_ids.specs.declared.ids.Node.TheVariants.{File}
+use Rattle.cfs_ids.specs.declared.ids.Node.{Node}
 use Rattle.cfs_ids.specs.declared.errno.Errno.{Errno}
 use Rattle.cfs_ids.specs.declared.call.Call.{Call}
-use Rattle.cfs_ids.specs.declared.call.Call.TheVariants.{Create}
 use Rattle.cfs_ids.specs.declared.call.Reply.TheVariants.{Refused}
 use Rattle.cfs_ids.specs.Namespace.{answer}
 use Rattle.cfs_steps.specs.declared.entry.Entry.{Entry}
@@ -21,7 +19,7 @@ use Rattle.cfs_steps.specs.declared.line.Line.{Line}
 use Rattle.cfs_steps.specs.declared.line.Outcome.{Outcome}
 use Rattle.cfs_steps.specs.declared.line.Outcome.TheVariants as outcome
 use Rattle.cfs_steps.specs.declared.line.HistoryItem.TheVariants.{Line as LineItem}
-use Rattle.cfs_steps.specs.Phases.{Phase, Asking, Inserting, Settling, TakingBack, Finished}
+use Rattle.cfs_steps.specs.Phases.{Phase, Asking, Inserting, Settling, TakingBack, Finished, maker}
 use Rattle.cfs_rules.specs.Worlds.{client_of, begun_of}
 use Rattle.cfs_rules.specs.Histories.{position_of, stamp_at, line_of, own_move, move_from, unfinished, begun_line, begun_lines}
 use Rattle.cfs_rules.specs.Legal.{EndsBelow, Follows, HasPositions}
@@ -65,25 +63,25 @@ pub record IsInserting (run : List (PlaceNo × Entry)) (c : ℕ) (lines : List L
   pub begun : Begun run lines first
   pub none : move_from (client_of c) (position_of first run) run ≡ None
 
-pub record IsSettling (run : List (PlaceNo × Entry)) (c : ℕ) (lines : List Line) (file : FileId) (ts : ℕ) (first at : Stamp) : Type 0 where
+pub record IsSettling (run : List (PlaceNo × Entry)) (c : ℕ) (lines : List Line) (node : Node) (ts : ℕ) (first at : Stamp) : Type 0 where
   pub begun : Begun run lines first
   pub there : stands at run ≡ true
   pub order : position_of first run ≤ position_of at run
-  pub found : move_from (client_of c) (position_of first run) run ≡ Some (position_of at run, ts, Some (File file))
+  pub found : move_from (client_of c) (position_of first run) run ≡ Some (position_of at run, ts, Some node)
 
-pub record IsRefused (run : List (PlaceNo × Entry)) (c : ℕ) (lines : List Line) (dir : DirId) (name : List ℕ) (errno : Errno) (first at : Stamp) : Type 0 where
+pub record IsRefused (run : List (PlaceNo × Entry)) (c : ℕ) (lines : List Line) (dir : DirId) (name : List ℕ) (node : Node) (errno : Errno) (first at : Stamp) : Type 0 where
   pub begun : Begun run lines first
   pub there : stands at run ≡ true
   pub order : position_of first run ≤ position_of at run
   pub none : move_from (client_of c) (position_of first run) run ≡ None
-  pub answered : answer (space_at run (position_of at run)) (Create dir name) ≡ Refused errno
+  pub answered : answer (space_at run (position_of at run)) (maker dir name node) ≡ Refused errno
 
 abbrev pub PhasePast : List (PlaceNo × Entry) → ℕ → List Line → Option Phase → Type 0
 PhasePast run c lines None = Unit {0}
 PhasePast run c lines (Some (Asking call)) = Unit {0}
-PhasePast run c lines (Some (Inserting dir name file ts first)) = IsInserting run c lines first
-PhasePast run c lines (Some (Settling dir name file ts first at)) = IsSettling run c lines file ts first at
-PhasePast run c lines (Some (TakingBack dir name file errno first at)) = IsRefused run c lines dir name errno first at
+PhasePast run c lines (Some (Inserting dir name node ts first)) = IsInserting run c lines first
+PhasePast run c lines (Some (Settling dir name node ts first at)) = IsSettling run c lines node ts first at
+PhasePast run c lines (Some (TakingBack dir name node errno first at)) = IsRefused run c lines dir name node errno first at
 PhasePast run c lines (Some (Finished done)) = ⊥
 
 abbrev pub done_lines : List (PlaceNo × Entry) → ℕ → List CallDone → List Line
@@ -163,24 +161,24 @@ module _ (run : List (PlaceNo × Entry)) (e : PlaceNo × Entry) (fresh : IsFresh
   PhasePast-grown : (c : ℕ) (lines : List Line) (current : Option Phase) → IsOthers c e.1.moved → PhasePast run c lines current → PhasePast (e ∷ run) c lines current
   PhasePast-grown c lines None others h = tt
   PhasePast-grown c lines (Some (Asking call)) others h = tt
-  PhasePast-grown c lines (Some (Inserting dir name file ts first)) others h = record {
+  PhasePast-grown c lines (Some (Inserting dir name node ts first)) others h = record {
     begun = Begun-grown lines first h.begun;
     none = found-grown c first h.begun.there others ∙ h.none;
   }
-  PhasePast-grown c lines (Some (Settling dir name file ts first at)) others h = record {
+  PhasePast-grown c lines (Some (Settling dir name node ts first at)) others h = record {
     begun = Begun-grown lines first h.begun;
     there = stands-grown at run e h.there;
     order = order-grown first at h.begun.there h.there h.order;
-    found = found-grown c first h.begun.there others ∙ h.found ∙ ap (λ p. Some (p, ts, Some (File file))) (sym (position-grown at run e fresh h.there));
+    found = found-grown c first h.begun.there others ∙ h.found ∙ ap (λ p. Some (p, ts, Some node)) (sym (position-grown at run e fresh h.there));
   }
-  PhasePast-grown c lines (Some (TakingBack dir name file errno first at)) others h = record {
+  PhasePast-grown c lines (Some (TakingBack dir name node errno first at)) others h = record {
     begun = Begun-grown lines first h.begun;
     there = stands-grown at run e h.there;
     order = order-grown first at h.begun.there h.there h.order;
     none = found-grown c first h.begun.there others ∙ h.none;
     answered = let at_then = position-within at run h.there in
-        ap (λ p. answer (space_at (e ∷ run) p) (Create dir name)) (position-grown at run e fresh h.there)
-        ∙ ap (λ n. answer n (Create dir name)) (space_at-before e run (position_of at run) (omega arith)) ∙ h.answered;
+        ap (λ p. answer (space_at (e ∷ run) p) (maker dir name node)) (position-grown at run e fresh h.there)
+        ∙ ap (λ n. answer n (maker dir name node)) (space_at-before e run (position_of at run) (omega arith)) ∙ h.answered;
   }
   PhasePast-grown c lines (Some (Finished done)) others h = absurd h
 
@@ -192,9 +190,9 @@ module _ (run : List (PlaceNo × Entry)) (e : PlaceNo × Entry) (fresh : IsFresh
   begun_lines-grown : (c : ℕ) (lines : List Line) (current : Option Phase) → IsOthers c e.1.moved → PhasePast run c lines current → begun_lines (e ∷ run) (client_of c) (begun_of current) ≡ begun_lines run (client_of c) (begun_of current)
   begun_lines-grown c lines None others h = refl
   begun_lines-grown c lines (Some (Asking call)) others h = refl
-  begun_lines-grown c lines (Some (Inserting dir name file ts first)) others h = ap (λ l. l ∷ []) (begun_line-grown c (Create dir name) first h.begun.there others)
-  begun_lines-grown c lines (Some (Settling dir name file ts first at)) others h = ap (λ l. l ∷ []) (begun_line-grown c (Create dir name) first h.begun.there others)
-  begun_lines-grown c lines (Some (TakingBack dir name file errno first at)) others h = ap (λ l. l ∷ []) (begun_line-grown c (Create dir name) first h.begun.there others)
+  begun_lines-grown c lines (Some (Inserting dir name node ts first)) others h = ap (λ l. l ∷ []) (begun_line-grown c (maker dir name node) first h.begun.there others)
+  begun_lines-grown c lines (Some (Settling dir name node ts first at)) others h = ap (λ l. l ∷ []) (begun_line-grown c (maker dir name node) first h.begun.there others)
+  begun_lines-grown c lines (Some (TakingBack dir name node errno first at)) others h = ap (λ l. l ∷ []) (begun_line-grown c (maker dir name node) first h.begun.there others)
   begun_lines-grown c lines (Some (Finished done)) others h = absurd h
 
   MovesTold-grown : (c : ℕ) (lines : List Line) → IsOthers c e.1.moved → MovesTold run c lines → MovesTold (e ∷ run) c lines

@@ -4,18 +4,16 @@ use Rattle.std.specs.Prelude.{Some, None}
 use Rattle.cfs_ids.specs.declared.ids.Stamp.{Stamp}
 use Rattle.cfs_ids.specs.declared.ids.At.TheVariants.{Step, Before}
 use Rattle.cfs_ids.specs.declared.ids.DirId.{DirId}
-use Rattle.cfs_ids.specs.declared.ids.FileId.{FileId}
 use Rattle.cfs_ids.specs.declared.ids.PlaceNo.{PlaceNo}
-use Rattle.cfs_ids.specs.declared.ids.Node.TheVariants.{File}
+use Rattle.cfs_ids.specs.declared.ids.Node.{Node}
 use Rattle.cfs_ids.specs.declared.errno.Errno.{Errno}
 use Rattle.cfs_ids.specs.declared.call.Call.{Call}
-use Rattle.cfs_ids.specs.declared.call.Call.TheVariants.{Create}
 use Rattle.cfs_ids.specs.declared.call.Reply.{Reply}
 use Rattle.cfs_ids.specs.declared.call.Reply.TheVariants.{Moved as MovedReply, Refused}
 use Rattle.cfs_ids.specs.Namespace.{answer}
 use Rattle.cfs_steps.specs.declared.entry.Entry.{Entry}
 use Rattle.cfs_steps.specs.declared.call_done.CallDone.{CallDone}
-use Rattle.cfs_steps.specs.Phases.{Asking, Inserting, Settling, TakingBack}
+use Rattle.cfs_steps.specs.Phases.{Asking, Inserting, Settling, TakingBack, maker}
 use Rattle.cfs_rules.specs.Worlds.{first_of}
 use Rattle.cfs_rules.specs.Histories.{is_at, position_of}
 use Rattle.cfs_laws.proofs.Lists.{Every}
@@ -47,29 +45,29 @@ module _ (run : List (PlaceNo × Entry)) (e : PlaceNo × Entry) (c : ℕ) (done 
   below_new t there = let within = position-within t (e ∷ run) (stands-grown t run e there) in omega (arith, position-new s run e is)
 
   -- a create that is refused at this step
-  pub refuse_now : (dir : DirId) (name : List ℕ) (file : FileId) (ts : ℕ) (errno : Errno) (first : Stamp) → ClientPast run c done (Some (Inserting dir name file ts first)) → answer (space run) (Create dir name) ≡ Refused errno
-      → ClientPast (e ∷ run) c done (Some (TakingBack dir name file errno first s))
-  refuse_now dir name file ts errno first h right =
+  pub refuse_now : (dir : DirId) (name : List ℕ) (node : Node) (ts : ℕ) (errno : Errno) (first : Stamp) → ClientPast run c done (Some (Inserting dir name node ts first)) → answer (space run) (maker dir name node) ≡ Refused errno
+      → ClientPast (e ∷ run) c done (Some (TakingBack dir name node errno first s))
+  refuse_now dir name node ts errno first h right =
       let inserting : IsInserting run c (done_lines run c done) first = h.phase in
-      refuse (e ∷ run) c done dir name file ts errno first s
-      (ClientPast-grown run e fresh c done (Some (Inserting dir name file ts first)) others h) (stands-new s run e is)
-      (below_new first inserting.begun.there) (ap (λ n. answer n (Create dir name)) space_now ∙ right)
+      refuse (e ∷ run) c done dir name node ts errno first s
+      (ClientPast-grown run e fresh c done (Some (Inserting dir name node ts first)) others h) (stands-new s run e is)
+      (below_new first inserting.begun.there) (ap (λ n. answer n (maker dir name node)) space_now ∙ right)
 
   -- a create that was refused ends
-  pub end_refused : (calls : List Call) (dir : DirId) (name : List ℕ) (file : FileId) (errno : Errno) (first at : Stamp) → ClientPast run c done (Some (TakingBack dir name file errno first at))
-      → ClientPast (e ∷ run) c (done ++ record { call = Create dir name; first = first; at = Before at; last = s; reply = Refused errno; ts = 0; made = None } ∷ []) (first_of calls)
-  end_refused calls dir name file errno first at h =
-      let before : IsRefused run c (done_lines run c done) dir name errno first at = h.phase in
-      let grown : ClientPast (e ∷ run) c done (Some (TakingBack dir name file errno first at)) = ClientPast-grown run e fresh c done (Some (TakingBack dir name file errno first at)) others h in
-      let now : IsRefused (e ∷ run) c (done_lines (e ∷ run) c done) dir name errno first at = grown.phase in
-      finish_replied (e ∷ run) c done (Some (TakingBack dir name file errno first at)) calls (Create dir name) first at s (Refused errno)
+  pub end_refused : (calls : List Call) (dir : DirId) (name : List ℕ) (node : Node) (errno : Errno) (first at : Stamp) → ClientPast run c done (Some (TakingBack dir name node errno first at))
+      → ClientPast (e ∷ run) c (done ++ record { call = maker dir name node; first = first; at = Before at; last = s; reply = Refused errno; ts = 0; made = None } ∷ []) (first_of calls)
+  end_refused calls dir name node errno first at h =
+      let before : IsRefused run c (done_lines run c done) dir name node errno first at = h.phase in
+      let grown : ClientPast (e ∷ run) c done (Some (TakingBack dir name node errno first at)) = ClientPast-grown run e fresh c done (Some (TakingBack dir name node errno first at)) others h in
+      let now : IsRefused (e ∷ run) c (done_lines (e ∷ run) c done) dir name node errno first at = grown.phase in
+      finish_replied (e ∷ run) c done (Some (TakingBack dir name node errno first at)) calls (maker dir name node) first at s (Refused errno)
       grown tt now.begun now.there (stands-new s run e is) now.order (below_new at before.there) now.answered
-      (λ q. begun_without (e ∷ run) c (Create dir name) first q now.none)
+      (λ q. begun_without (e ∷ run) c (maker dir name node) first q now.none)
 
   -- a create that has moved ends
-  pub end_moved : (calls : List Call) (dir : DirId) (name : List ℕ) (file : FileId) (ts : ℕ) (first at : Stamp) → ClientPast run c done (Some (Settling dir name file ts first at))
-      → ClientPast (e ∷ run) c (done ++ record { call = Create dir name; first = first; at = Step at; last = s; reply = MovedReply; ts = ts; made = Some (File file) } ∷ []) (first_of calls)
-  end_moved calls dir name file ts first at h =
-      let before : IsSettling run c (done_lines run c done) file ts first at = h.phase in
-      finish_moved (e ∷ run) c done calls dir name file ts first at s
-      (ClientPast-grown run e fresh c done (Some (Settling dir name file ts first at)) others h) (stands-new s run e is) (below_new at before.there)
+  pub end_moved : (calls : List Call) (dir : DirId) (name : List ℕ) (node : Node) (ts : ℕ) (first at : Stamp) → ClientPast run c done (Some (Settling dir name node ts first at))
+      → ClientPast (e ∷ run) c (done ++ record { call = maker dir name node; first = first; at = Step at; last = s; reply = MovedReply; ts = ts; made = Some node } ∷ []) (first_of calls)
+  end_moved calls dir name node ts first at h =
+      let before : IsSettling run c (done_lines run c done) node ts first at = h.phase in
+      finish_moved (e ∷ run) c done calls dir name node ts first at s
+      (ClientPast-grown run e fresh c done (Some (Settling dir name node ts first at)) others h) (stands-new s run e is) (below_new at before.there)

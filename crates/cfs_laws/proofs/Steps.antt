@@ -1,6 +1,6 @@
 -- One step of a world: its stamp is new, the other clients keep what holds of them, and so it is enough to know it of the actor.
 use Rattle.std.proofs.Common.{◌≡◌, ℕ, ◌≤◌, ◌<◌, List, ◌∷◌, Bool, true, false, refl, ap, subst, arith}
-use Rattle.std.specs.Prelude.{if◌then◌else◌, ◌||◌, ◌&&◌, ◌==◌, nat_lt, Option, Some, None}
+use Rattle.std.specs.Prelude.{if◌then◌else◌, ◌||◌, ◌&&◌, ◌==◌, Option, Some, None}
 use Rattle.std.proofs.lemmas.Bool.Decides.{nat_tests}
 use Rattle.cfs_ids.specs.declared.ids.Stamp.{Stamp}
 use Rattle.cfs_ids.specs.declared.ids.PlaceNo.{PlaceNo}
@@ -9,27 +9,22 @@ use Rattle.cfs_steps.specs.declared.entry.Entry.{Entry}
 use Rattle.cfs_steps.specs.declared.moves.Moved.{Moved}
 use Rattle.cfs_steps.specs.declared.moves.Moved.TheVariants.{Move}
 use Rattle.cfs_steps.specs.Asks.{place_of}
-use Rattle.cfs_rules.specs.Places.{Shard, Store, Roster, Served}
-use Rattle.cfs_rules.specs.Worlds.{World, Progress, client_of, entry_of, set_client, hears, after_shard, after_store, after_roster}
+use Rattle.cfs_rules.specs.Places.{Served}
+use Rattle.cfs_rules.specs.Worlds.{World, Progress, client_of, entry_of, set_client, set_last, hears}
+use Rattle.cfs_laws_places.proofs.Changes.{raised, last_set}
 use Rattle.cfs_laws.proofs.Stamps.{stands, IsFresh}
 use Rattle.cfs_laws.proofs.Pasts.{ClientPast, IsOthers, ClientPast-grown}
-
--- the last number of the shard, the store or the roster
-abbrev pub last_in : Bool → Bool → (shard store roster : ℕ) → ℕ
-last_in true in_store a b r = a
-last_in false true a b r = b
-last_in false false a b r = r
-
-abbrev pub last_at : (shard store roster : ℕ) → ℕ → ℕ
-last_at a b r place = last_in (nat_lt place 64) (nat_lt place 128) a b r
 
 -- no stamp of the run is above the last number of its place
 abbrev pub IsLow : (ℕ → ℕ) → List (PlaceNo × Entry) → Type 0
 IsLow last run = (s : Stamp) → stands s run ≡ true → s.number ≤ last s.place.0
 
-pub record Past (w : World) : Type 0 where
-  pub low : IsLow (last_at w.shard_last w.store_last w.roster_last) w.run
-  pub clients : (i : ℕ) → ClientPast w.run i (w.clients i).done (w.clients i).current
+pub record PastIn (lasts : ℕ → ℕ) (run : List (PlaceNo × Entry)) (all : ℕ → Progress) : Type 0 where
+  pub low : IsLow lasts run
+  pub clients : (i : ℕ) → ClientPast run i (all i).done (all i).current
+
+abbrev pub Past : World → Type 0
+Past w = PastIn w.lasts w.run w.clients
 
 fresh_step : (last : ℕ → ℕ) (run : List (PlaceNo × Entry)) (e : PlaceNo × Entry) → IsLow last run → last e.0.0 < e.1.number → IsFresh run e
 fresh_step last run e low new s there = by_test (e.1.number == s.number) refl (e.0.0 == s.place.0) refl
@@ -52,14 +47,6 @@ low_step last last' run e low more le s there = by_test (e.1.number == s.number)
         omega (arith, ap last' place)
     by_test true t false u there = omega (arith, low s there, more s.place.0)
     by_test false t b u there = omega (arith, low s there, more s.place.0)
-
-last_more : (a b r a' b' r' : ℕ) → a ≤ a' → b ≤ b' → r ≤ r' → (p : ℕ) → last_at a b r p ≤ last_at a' b' r' p
-last_more a b r a' b' r' la lb lr p = by_test (nat_lt p 64) (nat_lt p 128)
-  where
-    by_test : (x y : Bool) → last_in x y a b r ≤ last_in x y a' b' r'
-    by_test true y = la
-    by_test false true = lb
-    by_test false false = lr
 
 -- ---- the clients
 -- what a step moved is the client's, if it moved anything
@@ -88,32 +75,12 @@ step_entry c number ask s = (place_of ask, entry_of c number ask s)
 abbrev pub ActorKeeps : {C : Type 0} → World → ℕ → Progress → Ask → ℕ → Served C → Type 0
 ActorKeeps w c p ask number s = IsFresh w.run (step_entry c number ask s) → ClientPast (step_entry c number ask s ∷ w.run) c (hears p (place_of ask) (entry_of c number ask s)).done (hears p (place_of ask) (entry_of c number ask s)).current
 
-pub past_shard : (w : World) (c : ℕ) (p : Progress) (ask : Ask) (number : ℕ) (s : Served Shard) → Past w → nat_lt (place_of ask).0 64 ≡ true → w.shard_last < number → IsBy c s.moved
-    → ActorKeeps w c p ask number s → Past (after_shard w c p ask number s)
-past_shard w c p ask number s h here new by own = record {
-  low = low_step (last_at w.shard_last w.store_last w.roster_last) (last_at number w.store_last w.roster_last) w.run (step_entry c number ask s) h.low (last_more w.shard_last w.store_last w.roster_last number w.store_last w.roster_last (omega arith) (omega arith) (omega arith)) (rw here (omega arith));
+pub past_step : {C : Type 0} (w : World) (c : ℕ) (p : Progress) (ask : Ask) (number : ℕ) (s : Served C) → Past w → w.lasts (place_of ask).0 < number → IsBy c s.moved → ActorKeeps w c p ask number s
+    → PastIn (set_last w.lasts (place_of ask).0 number) (step_entry c number ask s ∷ w.run) (set_client w.clients c (hears p (place_of ask) (entry_of c number ask s)))
+past_step w c p ask number s h new by own = record {
+  low = low_step w.lasts (set_last w.lasts (place_of ask).0 number) w.run (step_entry c number ask s) h.low (raised w.lasts (place_of ask).0 number new) (omega (arith, last_set w.lasts (place_of ask).0 number));
   clients = step_clients w.run (step_entry c number ask s) w.clients c (hears p (place_of ask) (entry_of c number ask s)) fresh by h.clients (own fresh);
 }
   where
     fresh : IsFresh w.run (step_entry c number ask s)
-    fresh = fresh_step (last_at w.shard_last w.store_last w.roster_last) w.run (step_entry c number ask s) h.low (rw here new)
-
-pub past_store : (w : World) (c : ℕ) (p : Progress) (ask : Ask) (number : ℕ) (s : Served Store) → Past w → nat_lt (place_of ask).0 64 ≡ false → nat_lt (place_of ask).0 128 ≡ true → w.store_last < number → IsBy c s.moved
-    → ActorKeeps w c p ask number s → Past (after_store w c p ask number s)
-past_store w c p ask number s h above here new by own = record {
-  low = low_step (last_at w.shard_last w.store_last w.roster_last) (last_at w.shard_last number w.roster_last) w.run (step_entry c number ask s) h.low (last_more w.shard_last w.store_last w.roster_last w.shard_last number w.roster_last (omega arith) (omega arith) (omega arith)) (rw (above, here) (omega arith));
-  clients = step_clients w.run (step_entry c number ask s) w.clients c (hears p (place_of ask) (entry_of c number ask s)) fresh by h.clients (own fresh);
-}
-  where
-    fresh : IsFresh w.run (step_entry c number ask s)
-    fresh = fresh_step (last_at w.shard_last w.store_last w.roster_last) w.run (step_entry c number ask s) h.low (rw (above, here) new)
-
-pub past_roster : (w : World) (c : ℕ) (p : Progress) (ask : Ask) (number : ℕ) (s : Served Roster) → Past w → nat_lt (place_of ask).0 64 ≡ false → nat_lt (place_of ask).0 128 ≡ false → w.roster_last < number → IsBy c s.moved
-    → ActorKeeps w c p ask number s → Past (after_roster w c p ask number s)
-past_roster w c p ask number s h above beyond new by own = record {
-  low = low_step (last_at w.shard_last w.store_last w.roster_last) (last_at w.shard_last w.store_last number) w.run (step_entry c number ask s) h.low (last_more w.shard_last w.store_last w.roster_last w.shard_last w.store_last number (omega arith) (omega arith) (omega arith)) (rw (above, beyond) (omega arith));
-  clients = step_clients w.run (step_entry c number ask s) w.clients c (hears p (place_of ask) (entry_of c number ask s)) fresh by h.clients (own fresh);
-}
-  where
-    fresh : IsFresh w.run (step_entry c number ask s)
-    fresh = fresh_step (last_at w.shard_last w.store_last w.roster_last) w.run (step_entry c number ask s) h.low (rw (above, beyond) new)
+    fresh = fresh_step w.lasts w.run (step_entry c number ask s) h.low new

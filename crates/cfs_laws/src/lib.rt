@@ -3,7 +3,6 @@
 
 ghost use Rattle.std.specs.Prelude.{◌≡◌, ℕ, List};
 ghost use Rattle.cfs_ids.specs.declared.ids.PlaceNo.{PlaceNo};
-ghost use Rattle.cfs_ids.specs.declared.call.Call.{Call};
 ghost use Rattle.cfs_steps.specs.declared.call_done.ClientCalls.{ClientCalls};
 ghost use Rattle.cfs_steps.specs.declared.entry.Entry.{Entry};
 ghost use Rattle.cfs_rules.specs.Members.{HasCallers, IsRising};
@@ -11,7 +10,7 @@ ghost use Rattle.cfs_rules.specs.Facts.{MovesMatch};
 ghost use Rattle.cfs_rules.specs.Histories.{history_of, lines_of, world_history};
 ghost use Rattle.cfs_rules.specs.Legal.{IsLegal, final};
 ghost use Rattle.cfs_rules.specs.Trees.{tree};
-ghost use Rattle.cfs_rules.specs.Worlds.{opening, run_of};
+ghost use Rattle.cfs_rules.specs.Worlds.{Setup, IsSetup, played};
 ghost use Rattle.cfs_laws.specs.EachLine.{HasEachLine};
 
 /// Whatever the clients call and whoever steps next, the history of the run is legal: each line has its point between
@@ -19,12 +18,12 @@ ghost use Rattle.cfs_laws.specs.EachLine.{HasEachLine};
 /// stand at one position, and each reply is the sequential namespace's so far. The namespace that it ends in is the
 /// tree of the places, and each move of the run stands in exactly one line.
 pub fn one_legal_history()
-    ensures legal { (calls : ℕ → List Call) (turns members : List ℕ) → IsRising members → HasCallers calls members
-        → IsLegal (world_history members (run_of turns (opening calls))) }
-    ensures last { (calls : ℕ → List Call) (turns members : List ℕ) → IsRising members → HasCallers calls members
-        → final (world_history members (run_of turns (opening calls))) ≡ tree (run_of turns (opening calls)).shard (run_of turns (opening calls)).store }
-    ensures moves { (calls : ℕ → List Call) (turns members : List ℕ) → IsRising members → HasCallers calls members
-        → MovesMatch (run_of turns (opening calls)).run (world_history members (run_of turns (opening calls))) }
+    ensures legal { (setup : Setup) → IsSetup setup → (turns members : List ℕ) → IsRising members → HasCallers setup.calls members
+        → IsLegal (world_history members (played setup turns)) }
+    ensures last { (setup : Setup) → IsSetup setup → (turns members : List ℕ) → IsRising members → HasCallers setup.calls members
+        → final (world_history members (played setup turns)) ≡ tree (played setup turns).shard (played setup turns).store }
+    ensures moves { (setup : Setup) → IsSetup setup → (turns members : List ℕ) → IsRising members → HasCallers setup.calls members
+        → MovesMatch (played setup turns).run (world_history members (played setup turns)) }
 {}
 
 /// A history has each line of its calls, as often as it stands among them: no call that made a step is lost where the

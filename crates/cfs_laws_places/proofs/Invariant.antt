@@ -1,60 +1,87 @@
 -- What holds of every world, in the form that each turn keeps.
-use Rattle.std.proofs.Common.{◌≡◌, ◌≢◌, ℕ, ◌+◌, ◌*◌, ◌≤◌, List, [], ◌∷◌, Bool, true, false, cond, refl, sym, ◌∙◌, subst, arith, ◌⊎◌}
+use Rattle.std.proofs.Common.{◌≡◌, ◌≢◌, ℕ, suc, ◌+◌, ◌*◌, ◌<◌, List, [], ◌∷◌, Bool, true, false, cond, refl, sym, ◌∙◌, subst, arith, ◌⊎◌}
 use Rattle.std.specs.Prelude.{if◌then◌else◌, ◌||◌, ◌==◌, Option, Some, None}
 use Rattle.std.proofs.lemmas.Bool.Decides.{nat_tests}
+use Rattle.std.specs.List.{list_any}
+use Rattle.std.specs.Option.{option_map}
 use Rattle.std.specs.Ordering.{nat_cmp}
 use Rattle.std.specs.Cmp.Lexicographic.{slice_cmp, nat_list_cmp_total}
 use Rattle.std.specs.FinMap.{get, insert, remove, entries, gets, entries-insert, get-entries}
-use Rattle.cfs_ids.specs.declared.ids.FileId.{FileId}
-use Rattle.cfs_ids.specs.declared.ids.Node.TheVariants.{File}
+use Rattle.cfs_ids.specs.declared.ids.DirId.{DirId}
+use Rattle.cfs_ids.specs.declared.ids.Client.{Client}
+use Rattle.cfs_ids.specs.declared.ids.Node.{Node}
+use Rattle.cfs_ids.specs.declared.ids.Node.TheVariants.{Dir, File}
 use Rattle.cfs_ids.specs.declared.call.Call.{Call}
 use Rattle.cfs_ids.specs.Maps.{Names, Numbers, how_many}
-use Rattle.cfs_ids.specs.Namespace.{names_file}
+use Rattle.cfs_ids.specs.Namespace.{is_node}
 use Rattle.cfs_ids.proofs.MapLemmas.{how_many-put, list_any-put}
+use Rattle.cfs_steps.specs.Asks.{home_of}
 use Rattle.cfs_steps.specs.declared.contents.Row.{Row}
 use Rattle.cfs_steps.specs.declared.contents.DirRec.{DirRec}
 use Rattle.cfs_steps.specs.declared.contents.FileRec.{FileRec}
 use Rattle.cfs_steps.specs.declared.moves.Moved.{Moved}
 use Rattle.cfs_steps.specs.Phases.{Phase, Asking, Inserting, Settling, TakingBack, Finished}
 use Rattle.cfs_rules.specs.Places.{Shard, Store}
-use Rattle.cfs_rules.specs.Worlds.{World, Progress, client_of, set_client, first_of}
-use Rattle.cfs_rules.specs.Trees.{is_named, tree, facts_of}
+use Rattle.cfs_rules.specs.Worlds.{World, Progress, client_of, set_client, first_of, rest_of, dir_of, AreInRoot}
+use Rattle.cfs_rules.specs.Trees.{is_shown, tree, facts_of}
 use Rattle.cfs_rules.specs.Facts.{CountsHold, MovesAllowed, IsAllowed, after_moved, space}
 
--- the client owns the file, which a row names or not
-pub record Owns (shard : Shard) (store : Store) (c f : ℕ) (named : Bool) : Type 0 where
-  pub rec : FileRec
-  pub there : get store f ≡ Some rec
-  pub owner : rec.owner ≡ Some (client_of c)
-  pub name : is_named shard f ≡ named
+-- ---- files and directories alike
+-- whether a row names the node
+abbrev pub is_named_node : Shard → Node → Bool
+is_named_node shard node = list_any (λ e. is_node node e.1.node) (entries shard.rows)
 
--- the same, and nothing was done to the file since it was put
-pub record OwnsNew (shard : Shard) (store : Store) (c f ts : ℕ) : Type 0 where
-  pub owns : Owns shard store c f false
-  pub new : facts_of owns.rec ≡ record { size = 0; time = ts }
+-- the owner that a node's record has, where there is a record
+abbrev pub owner_at : Shard → Store → Node → Option (Option Client)
+owner_at shard store (File f) = option_map (λ (r : FileRec). r.owner) (get store f.0)
+owner_at shard store (Dir d) = option_map (λ (r : DirRec). r.owner) (get shard.recs d.0)
+
+abbrev pub Has : Shard → Store → Node → Type 0
+Has shard store node = (owner : Option Client) × (owner_at shard store node ≡ Some owner)
+
+abbrev pub number_of : Node → ℕ
+number_of (File f) = f.0
+number_of (Dir d) = d.0
+
+-- the client owns the node, which a row names or not
+pub record Owns (shard : Shard) (store : Store) (c : ℕ) (node : Node) (named : Bool) : Type 0 where
+  pub owner : owner_at shard store node ≡ Some (Some (client_of c))
+  pub name : is_named_node shard node ≡ named
+
+-- nothing was done to the node since it was put at this time
+abbrev pub IsNew : Shard → Store → Node → ℕ → Type 0
+IsNew shard store (File f) ts = option_map facts_of (get store f.0) ≡ Some (record { size = 0; time = ts })
+IsNew shard store (Dir d) ts = option_map (λ (r : DirRec). r.attr.time) (get shard.recs d.0) ≡ Some ts
+
+-- a client that is about to name its node in a directory of the tree
+pub record MayInsert (shard : Shard) (store : Store) (c : ℕ) (dir : DirId) (node : Node) (ts : ℕ) : Type 0 where
+  pub sees : is_shown shard dir.0 ≡ true
+  pub owns : Owns shard store c node false
+  pub new : IsNew shard store node ts
 
 -- what a client in a phase may rely on
 abbrev pub PhaseHolds : Shard → Store → ℕ → Phase → Type 0
-PhaseHolds shard store c (Asking call) = Unit {0}
-PhaseHolds shard store c (Inserting dir name file ts first) = OwnsNew shard store c file.0 ts
-PhaseHolds shard store c (Settling dir name file ts first at) = Owns shard store c file.0 true
-PhaseHolds shard store c (TakingBack dir name file errno first at) = Owns shard store c file.0 false
+PhaseHolds shard store c (Asking call) = is_shown shard (dir_of call).0 ≡ true
+PhaseHolds shard store c (Inserting dir name node ts first) = MayInsert shard store c dir node ts
+PhaseHolds shard store c (Settling dir name node ts first at) = Owns shard store c node true
+PhaseHolds shard store c (TakingBack dir name node errno first at) = Owns shard store c node false
 PhaseHolds shard store c (Finished done) = ⊥
 
 abbrev pub CurrentHolds : Shard → Store → ℕ → Option Phase → Type 0
 CurrentHolds shard store c None = Unit {0}
 CurrentHolds shard store c (Some phase) = PhaseHolds shard store c phase
 
-pub record PlacesHold (shard : Shard) (store : Store) (store_last : ℕ) : Type 0 where
+pub record PlacesHold (shard : Shard) (store : Store) (lasts : ℕ → ℕ) : Type 0 where
   pub counts : CountsHold shard
-  pub named : (f : ℕ) → is_named shard f ≡ true → (r : FileRec) × (get store f ≡ Some r)
-  pub only_files : (k : List ℕ) (row : Row) → get shard.rows k ≡ Some row → (f : FileId) × (row.node ≡ File f)
-  pub housed : (d : ℕ) (name : List ℕ) (row : Row) → get shard.rows (d ∷ name) ≡ Some row → (r : DirRec) × (get shard.recs d ≡ Some r)
-  pub known : (f : ℕ) (r : FileRec) → get store f ≡ Some r → f ≤ 64 * store_last
+  pub named : (node : Node) → is_named_node shard node ≡ true → Has shard store node
+  pub housed : (d : ℕ) (name : List ℕ) (row : Row) → get shard.rows (d ∷ name) ≡ Some row → is_shown shard d ≡ true
+  pub root : owner_at shard store (Dir (record { 0 = 0 })) ≡ Some None
+  pub known : (node : Node) (owner : Option Client) → owner_at shard store node ≡ Some owner → number_of node < 64 * suc (lasts (home_of node).0)
 
 pub record Holds (w : World) : Type 0 where
-  pub places : PlacesHold w.shard w.store w.store_last
+  pub places : PlacesHold w.shard w.store w.lasts
   pub clients : (i : ℕ) → CurrentHolds w.shard w.store i (w.clients i).current
+  pub waiting : (i : ℕ) → AreInRoot (w.clients i).waiting
 
 -- what holds of the moves so far
 pub record Past (w : World) : Type 0 where
@@ -63,16 +90,23 @@ pub record Past (w : World) : Type 0 where
 
 -- a step of c, which made this of the places, keeps what they hold and what the others rely on, and its move makes the
 -- new tree of the old
-pub record Keeps (shard shard' : Shard) (store store' : Store) (last c : ℕ) (moved : Option Moved) : Type 0 where
-  pub places : PlacesHold shard' store' last
+pub record Keeps (shard shard' : Shard) (store store' : Store) (lasts : ℕ → ℕ) (c : ℕ) (moved : Option Moved) : Type 0 where
+  pub places : PlacesHold shard' store' lasts
   pub others : (i : ℕ) → i ≢ c → (o : Option Phase) → CurrentHolds shard store i o → CurrentHolds shard' store' i o
   pub to : tree shard' store' ≡ after_moved (tree shard store) moved
   pub may : IsAllowed (tree shard store) moved
 
--- a client that begins its next call relies on nothing
-pub first_holds : (shard : Shard) (store : Store) (c : ℕ) (waiting : List Call) → CurrentHolds shard store c (first_of waiting)
-first_holds shard store c [] = tt
-first_holds shard store c (call ∷ calls) = tt
+-- a client that begins its next call relies on the root alone
+root_shown : (shard : Shard) (d : ℕ) → d ≡ 0 → is_shown shard d ≡ true
+root_shown shard d root = rw root refl
+
+pub first_holds : (shard : Shard) (store : Store) (c : ℕ) (waiting : List Call) → AreInRoot waiting → CurrentHolds shard store c (first_of waiting)
+first_holds shard store c [] h = tt
+first_holds shard store c (call ∷ calls) h = root_shown shard (dir_of call).0 h.0
+
+pub rest_in_root : (waiting : List Call) → AreInRoot waiting → AreInRoot (rest_of waiting)
+rest_in_root [] h = tt
+rest_in_root (call ∷ calls) h = h.1
 
 -- a step of c keeps what the others rely on, and gives c what its new phase relies on
 pub clients_keep : (shard shard' : Shard) (store store' : Store) (clients : ℕ → Progress) (c : ℕ) (p : Progress)
@@ -86,14 +120,19 @@ clients_keep shard shard' store store' clients c p others own all i = by_test (i
     by_test true e = let same : i ≡ c = grind (arith, nat_tests) in subst (λ j. CurrentHolds shard' store' j p.current) (sym same) own
     by_test false e = let differ : i ≢ c = grind (arith, nat_tests) in others i differ _ (all i)
 
+pub waiting_keep : (clients : ℕ → Progress) (c : ℕ) (p : Progress) → AreInRoot p.waiting → ((i : ℕ) → AreInRoot (clients i).waiting) → (i : ℕ) → AreInRoot (set_client clients c p i).waiting
+waiting_keep clients c p own all i = by_test (i == c)
+  where
+    by_test : (b : Bool) → AreInRoot (if b then p else clients i).waiting
+    by_test true = own
+    by_test false = all i
+
 -- ---- what a new row changes
 pub how_many-set_row : (rows : Names Row) (p : List ℕ × Row → Bool) (k : List ℕ) (row : Row) → get rows k ≡ None → how_many p (entries (insert rows k row)) ≡ how_many p (entries rows) + cond (p (k, row)) 1 0
 how_many-set_row rows p k row none = rw (entries-insert nat_list_cmp_total rows k row) (how_many-put (slice_cmp nat_cmp) p k row (entries rows) (sym (get-entries rows k) ∙ none))
 
-pub is_named-set_row : (rows : Names Row) (recs : Numbers DirRec) (f : ℕ) (k : List ℕ) (row : Row) → get rows k ≡ None →
-    is_named (record { rows = insert rows k row; recs = recs }) f ≡ (names_file f row.node || is_named (record { rows = rows; recs = recs }) f)
-is_named-set_row rows recs f k row none =
-    rw (entries-insert nat_list_cmp_total rows k row) (list_any-put (slice_cmp nat_cmp) _ k row (entries rows) (sym (get-entries rows k) ∙ none))
+pub any-set_row : (rows : Names Row) (p : List ℕ × Row → Bool) (k : List ℕ) (row : Row) → get rows k ≡ None → list_any p (entries (insert rows k row)) ≡ (p (k, row) || list_any p (entries rows))
+any-set_row rows p k row none = rw (entries-insert nat_list_cmp_total rows k row) (list_any-put (slice_cmp nat_cmp) p k row (entries rows) (sym (get-entries rows k) ∙ none))
 
 -- ---- lookups at another number
 pub get-insert_other : {X : Type 0} (m : Numbers X) (k q : ℕ) (v : X) → q ≢ k → get (insert m k v) q ≡ get m q
@@ -109,8 +148,13 @@ get-remove_other m k q differ = grind (arith, nat_tests, gets)
 pub from_insert : {X : Type 0} (m : Numbers X) (k q : ℕ) (v x : X) → get (insert m k v) q ≡ Some x → ((q ≡ k) × (x ≡ v)) ⊎ ((q ≢ k) × (get m q ≡ Some x))
 from_insert m k q v x e = grind (arith, nat_tests, gets)
 
-pub row_from_insert : {X : Type 0} (m : Names X) (k q : List ℕ) (v x : X) → get (insert m k v) q ≡ Some x → (x ≡ v) ⊎ (get m q ≡ Some x)
-row_from_insert m k q v x e = grind (arith, gets)
+-- and one after a removal is another one
+pub from_remove : {X : Type 0} (m : Numbers X) (k q : ℕ) (x : X) → get (remove m k) q ≡ Some x → (q ≢ k) × (get m q ≡ Some x)
+from_remove m k q x e = by_test (q == k) refl
+  where
+    by_test : (b : Bool) → (q == k) ≡ b → (q ≢ k) × (get m q ≡ Some x)
+    by_test true t = absurd (grind (arith, nat_tests, gets))
+    by_test false t = (grind (arith, nat_tests), grind (arith, nat_tests, gets))
 
 pub place_from_insert : {X : Type 0} (m : Names X) (d : ℕ) (name : List ℕ) (e : ℕ) (other : List ℕ) (v x : X) → get (insert m (d ∷ name) v) (e ∷ other) ≡ Some x → (e ≡ d) ⊎ (get m (e ∷ other) ≡ Some x)
 place_from_insert m d name e other v x h = grind (arith, nat_tests, gets)

@@ -1,33 +1,35 @@
 -- What holds after any list of turns.
-use Rattle.std.proofs.Common.{◌≡◌, ◌≢◌, ℕ, List, [], ◌∷◌, length, Bool, true, false, cond, refl, sym, ◌∙◌, ap, arith, inl, inr}
-use Rattle.std.specs.Prelude.{◌==◌, Option, Some, None}
+use Rattle.std.proofs.Common.{◌≡◌, ◌≢◌, ℕ, ◌<◌, List, [], ◌∷◌, length, Bool, true, false, cond, refl, sym, ◌∙◌, ap, arith, inl, inr}
+use Rattle.std.specs.Prelude.{◌||◌, ◌==◌, Option, Some, None}
 use Rattle.std.proofs.lemmas.Bool.Decides.{nat_tests}
 use Rattle.std.specs.Option.{option_map}
 use Rattle.std.specs.List.{list_any}
 use Rattle.std.specs.declared.cmp.Ordering.{Ordering}
-use Rattle.std.specs.Ordering.{nat_cmp}
+use Rattle.std.specs.Ordering.{nat_cmp, is_eq}
 use Rattle.std.specs.Cmp.{nat_cmp_total}
-use Rattle.std.specs.Cmp.Lexicographic.{slice_cmp, nat_list_cmp_total}
+use Rattle.std.specs.Cmp.Lexicographic.{slice_cmp}
 use Rattle.std.specs.FinMap.{get, empty, entries, find, get-entries, len-entries, len-empty, get-empty, same_map, nat_cmp-IsAntisymmetric}
-use Rattle.cfs_ids.specs.declared.ids.FileId.{FileId}
+use Rattle.cfs_ids.specs.declared.ids.Client.{Client}
 use Rattle.cfs_ids.specs.declared.ids.Node.{Node}
-use Rattle.cfs_ids.specs.declared.ids.Node.TheVariants.{File}
-use Rattle.cfs_ids.specs.declared.call.Call.{Call}
+use Rattle.cfs_ids.specs.declared.ids.Node.TheVariants.{Dir, File}
 use Rattle.cfs_ids.specs.Maps.{Names}
-use Rattle.cfs_ids.specs.Namespace.{Directory, FileFacts, empty_root, names_file}
+use Rattle.cfs_ids.specs.Namespace.{is_node, Directory, FileFacts, empty_root}
 use Rattle.cfs_steps.specs.declared.contents.Row.{Row}
 use Rattle.cfs_steps.specs.declared.contents.DirRec.{DirRec}
 use Rattle.cfs_steps.specs.declared.contents.FileRec.{FileRec}
-use Rattle.cfs_rules.specs.Places.{opening_shard, empty_attr, names_of}
-use Rattle.cfs_rules.specs.Worlds.{World, opening, turn, run_of}
-use Rattle.cfs_rules.specs.Trees.{is_named, tree, directory_of, facts_of, is_counted}
-use Rattle.cfs_rules.specs.Facts.{CountsHold, Counted, AttributesHold, MovesAllowed, after_moved, space}
-use Rattle.cfs_rules.specs.Known.{Known}
+use Rattle.cfs_steps.specs.Phases.{Phase, Asking, Inserting, Settling, TakingBack, Finished}
+use Rattle.cfs_rules.specs.Places.{Shard, Store, opening_shard, empty_attr}
+use Rattle.cfs_rules.specs.Worlds.{World, Setup, IsSetup, opening, turn, played}
+use Rattle.cfs_rules.specs.Trees.{is_shown, tree, directory_of, facts_of, is_counted}
+use Rattle.cfs_rules.specs.Facts.{CountsHold, Counted, HasRecord, AttributesHold, MovesAllowed, after_moved, space}
+use Rattle.cfs_rules.specs.Known.{Known, Sees}
 use Rattle.cfs_laws_places.specs.Turns.{GrowsByOne, KeepsUnmoved, KeepsStill}
-use Rattle.cfs_laws_places.proofs.Invariant.{Holds, Past, first_holds, from_insert, get-insert_same, get-insert_other}
-use Rattle.cfs_laws_places.proofs.Trees.{bytes_apart, get-tree_dirs, get-names_of, get-tree_files}
-use Rattle.cfs_laws_places.proofs.Told.{lookup_told, list_told, create_told}
-use Rattle.cfs_laws_places.proofs.Turns.{next_of, run_keeps, run_past}
+use Rattle.cfs_laws_places.proofs.Invariant.{owner_at, Has, number_of, CurrentHolds, Holds, Past, first_holds, rest_in_root, from_insert, get-insert_same, get-insert_other}
+use Rattle.cfs_laws_places.proofs.Nodes.{names_same}
+use Rattle.cfs_rules.proofs.TreeLookups.{get-tree_dirs, get-tree_files}
+use Rattle.cfs_laws_places.proofs.Trees.{no_names, or_true}
+use Rattle.cfs_laws_places.proofs.Told.{lookup_told, list_told, make_told}
+use Rattle.cfs_laws_places.proofs.Turns.{next_of, run_keeps, run_past, shown_has}
 
 -- ---- the opening
 no_entries : {A : Type 0} (xs : List A) → length xs ≡ 0 → xs ≡ []
@@ -40,38 +42,61 @@ entries-empty {K} {X} R = no_entries _ (sym (len-entries (empty {X = X} {R = R})
 no_rows : entries (empty {X = Row} {R = slice_cmp nat_cmp}) ≡ []
 no_rows = entries-empty {X = Row} (slice_cmp nat_cmp)
 
+abbrev root_rec : DirRec
+root_rec = record { attr = empty_attr; back = None; owner = None }
+
 opening_counts : (d : ℕ) (r : DirRec) → get opening_shard.recs d ≡ Some r → Counted opening_shard d r
-opening_counts d r e = let s = from_insert empty 0 d (record { attr = empty_attr }) r e in
+opening_counts d r e = let s = from_insert empty 0 d root_rec r e in
     elim s [
       | inl p ↦ record { children = rw (p.1, no_rows) refl; subdirs = rw (p.1, no_rows) refl }
       | inr p ↦ (let none = get-empty {X = DirRec} nat_cmp d in cc)
     ]
 
-pub opening_holds : (calls : ℕ → List Call) → Holds (opening calls)
-opening_holds calls = record {
+-- the root alone has a record
+opening_known : (node : Node) (owner : Option Client) → owner_at opening_shard empty node ≡ Some owner → number_of node < 64
+opening_known (File f) owner e = let none = get-empty {X = FileRec} nat_cmp f.0 in absurd (no_owner (get (empty {X = FileRec} {R = nat_cmp}) f.0) none e)
+  where
+    no_owner : (o : Option FileRec) → o ≡ None → option_map (λ (r : FileRec). r.owner) o ≡ Some owner → ⊥
+    no_owner None is e = cc
+    no_owner (Some r) is e = cc
+opening_known (Dir d) owner e = by_test (d.0 == 0) refl
+  where
+    no_owner : (o : Option DirRec) → o ≡ None → option_map (λ (r : DirRec). r.owner) o ≡ Some owner → ⊥
+    no_owner None is e = cc
+    no_owner (Some r) is e = cc
+
+    by_test : (b : Bool) → (d.0 == 0) ≡ b → d.0 < 64
+    by_test true t = let root : d.0 ≡ 0 = grind (arith, nat_tests) in omega arith
+    by_test false t = let differ : d.0 ≢ 0 = grind (arith, nat_tests) in
+        absurd (no_owner (get opening_shard.recs d.0) (get-insert_other (empty {X = DirRec} {R = nat_cmp}) 0 d.0 root_rec differ ∙ get-empty {X = DirRec} nat_cmp d.0) e)
+
+pub opening_holds : (setup : Setup) → IsSetup setup → Holds (opening setup)
+opening_holds setup good = record {
   places = record {
     counts = opening_counts;
+    named = λ node e. let no : false ≡ true = rw no_rows at e in cc;
     housed = λ d n row e. let none = get-empty {X = Row} (slice_cmp nat_cmp) (d ∷ n) in cc;
-    only_files = λ k row e. let none = get-empty {X = Row} (slice_cmp nat_cmp) k in cc;
-    named = λ f e. let no : false ≡ true = rw no_rows at e in cc;
-    known = λ f r e. let none = get-empty {X = FileRec} nat_cmp f in cc;
+    root = ap (option_map (λ (r : DirRec). r.owner)) (get-insert_same (empty {X = DirRec} {R = nat_cmp}) 0 root_rec);
+    known = λ node owner e. let low = opening_known node owner e in omega arith;
   };
-  clients = λ i. first_holds opening_shard empty i (calls i);
+  clients = λ i. first_holds opening_shard empty i (setup.calls i) (good.calls i);
+  waiting = λ i. rest_in_root (setup.calls i) (good.calls i);
 }
-
-opening_names : names_of opening_shard 0 ≡ empty
-opening_names = same_map nat_list_cmp_total bytes_apart _ _ (λ q.
-    get-names_of opening_shard 0 q ∙ ap (option_map (λ (row : Row). row.node)) (get-empty {X = Row} (slice_cmp nat_cmp) (0 ∷ q)) ∙ sym (get-empty {X = Node} (slice_cmp nat_cmp) q))
 
 opening_tree : tree opening_shard empty ≡ empty_root
 opening_tree = λ i. record { dirs = dirs i; files = files i }
   where
-    by_test : (q : ℕ) (b : Bool) → (q == 0) ≡ b → option_map (directory_of opening_shard q) (get opening_shard.recs q) ≡ get empty_root.dirs q
+    no_dir : (b : Bool) (o : Option DirRec) (q : ℕ) → o ≡ None → option_map (directory_of opening_shard q) (cond b o None) ≡ None
+    no_dir true o q e = rw e refl
+    no_dir false o q e = refl
+
+    by_test : (q : ℕ) (b : Bool) → (q == 0) ≡ b → option_map (directory_of opening_shard q) (cond (is_shown opening_shard q) (get opening_shard.recs q) None) ≡ get empty_root.dirs q
     by_test q true t = let same : q ≡ 0 = grind (arith, nat_tests) in
-        rw (same, get-insert_same (empty {X = DirRec} {R = nat_cmp}) 0 (record { attr = empty_attr }), get-insert_same (empty {X = Directory} {R = nat_cmp}) 0 (record { names = empty; time = 0 }))
-        (ap (λ (ns : Names Node). Some (record { names = ns; time = 0 })) opening_names)
+        rw (same, get-insert_same (empty {X = DirRec} {R = nat_cmp}) 0 root_rec, get-insert_same (empty {X = Directory} {R = nat_cmp}) 0 (record { names = empty; time = 0 }))
+        (ap (λ (ns : Names Node). Some (record { names = ns; time = 0 })) (no_names opening_shard 0 (λ name. get-empty {X = Row} (slice_cmp nat_cmp) (0 ∷ name))))
     by_test q false t = let differ : q ≢ 0 = grind (arith, nat_tests) in
-        rw (get-insert_other (empty {X = DirRec} {R = nat_cmp}) 0 q (record { attr = empty_attr }) differ, get-insert_other (empty {X = Directory} {R = nat_cmp}) 0 q (record { names = empty; time = 0 }) differ, get-empty {X = DirRec} nat_cmp q, get-empty {X = Directory} nat_cmp q) refl
+        no_dir (is_shown opening_shard q) (get opening_shard.recs q) q (get-insert_other (empty {X = DirRec} {R = nat_cmp}) 0 q root_rec differ ∙ get-empty {X = DirRec} nat_cmp q)
+        ∙ sym (get-insert_other (empty {X = Directory} {R = nat_cmp}) 0 q (record { names = empty; time = 0 }) differ ∙ get-empty {X = Directory} nat_cmp q)
 
     dirs : (tree opening_shard empty).dirs ≡ empty_root.dirs
     dirs = same_map nat_cmp_total nat_cmp-IsAntisymmetric _ _ (λ q. get-tree_dirs opening_shard empty q ∙ by_test q (q == 0) refl)
@@ -84,62 +109,87 @@ opening_tree = λ i. record { dirs = dirs i; files = files i }
     files = same_map nat_cmp_total nat_cmp-IsAntisymmetric _ _ (λ f. get-tree_files opening_shard empty f ∙ of_none (is_counted opening_shard empty f) _ (get-empty {X = FileRec} nat_cmp f) ∙ sym (get-empty {X = FileFacts} nat_cmp f))
 
 -- ---- any run
-pub holds_of : (calls : ℕ → List Call) (turns : List ℕ) → Holds (run_of turns (opening calls))
-holds_of calls turns = run_keeps turns (opening calls) (opening_holds calls)
-
-pub past_of : (calls : ℕ → List Call) (turns : List ℕ) → Past (run_of turns (opening calls))
-past_of calls turns = run_past turns (opening calls) (opening_holds calls) (record { same = opening_tree; allowed = tt })
+-- a client's call is on a directory of the tree
+sees_of : (shard : Shard) (store : Store) (c : ℕ) (o : Option Phase) → CurrentHolds shard store c o → Sees shard o
+sees_of shard store c None h = tt
+sees_of shard store c (Some (Asking call)) h = h
+sees_of shard store c (Some (Inserting dir name node ts first)) h = h.sees
+sees_of shard store c (Some (Settling dir name node ts first at)) h = tt
+sees_of shard store c (Some (TakingBack dir name node errno first at)) h = tt
+sees_of shard store c (Some (Finished done)) h = tt
 
 known_by : (w : World) → Holds w → Past w → Known w
 known_by w h past = record {
   same = past.same;
   allowed = past.allowed;
-  lookup = lookup_told w.shard w.store w.store_last h.places;
+  sees = λ c. sees_of w.shard w.store c (w.clients c).current (h.clients c);
+  lookup = lookup_told w.shard w.store (λ d name row e. shown_has w.shard w.store w.lasts h.places d (h.places.housed d name row e));
   listed = list_told w.shard w.store;
-  create = create_told w.shard w.store;
+  make = make_told w.shard w.store;
 }
 
-pub known_of : (calls : ℕ → List Call) (turns : List ℕ) → Known (run_of turns (opening calls))
-known_of calls turns = known_by (run_of turns (opening calls)) (holds_of calls turns) (past_of calls turns)
+-- a row's node is named
+named_of_row : (es : List (List ℕ × Row)) (k : List ℕ) (row : Row) → find (slice_cmp nat_cmp) k es ≡ Some row → list_any (λ e. is_node row.node e.1.node) es ≡ true
+named_of_row [] k row e = cc
+named_of_row (x ∷ es) k row e = by_test (is_eq (slice_cmp nat_cmp k x.0)) e (named_of_row es k row)
+  where
+    by_test : (b : Bool) → cond b (Some x.1) (find (slice_cmp nat_cmp) k es) ≡ Some row → (find (slice_cmp nat_cmp) k es ≡ Some row → list_any (λ e. is_node row.node e.1.node) es ≡ true) → (is_node row.node x.1.node || list_any (λ e. is_node row.node e.1.node) es) ≡ true
+    by_test true e rest = let same : x.1 ≡ row = cc in ap (λ (r : Row). is_node row.node r.node || list_any (λ e. is_node row.node e.1.node) es) same ∙ ap (λ b. b || list_any (λ e. is_node row.node e.1.node) es) (names_same row.node)
+    by_test false e rest = ap (λ b. is_node row.node x.1.node || b) (rest e) ∙ or_true (is_node row.node x.1.node)
 
-pub tree_of : (calls : ℕ → List Call) (turns : List ℕ) → tree (run_of turns (opening calls)).shard (run_of turns (opening calls)).store ≡ space (run_of turns (opening calls)).run
-tree_of calls turns = (past_of calls turns).same
-
-pub moves_of : (calls : ℕ → List Call) (turns : List ℕ) → MovesAllowed (run_of turns (opening calls)).run
-moves_of calls turns = (past_of calls turns).allowed
-
-pub counts_of : (calls : ℕ → List Call) (turns : List ℕ) → CountsHold (run_of turns (opening calls)).shard
-counts_of calls turns = (holds_of calls turns).places.counts
-
--- a row's file is named
-named_of_row : (es : List (List ℕ × Row)) (k : List ℕ) (row : Row) (f : FileId) → find (slice_cmp nat_cmp) k es ≡ Some row → row.node ≡ File f → list_any (λ e. names_file f.0 e.1.node) es ≡ true
-named_of_row [] k row f e n = cc
-named_of_row (x ∷ es) k row f e n = grind (arith, nat_tests, named_of_row es k row f)
+has_record : (shard : Shard) (store : Store) (node : Node) → Has shard store node → HasRecord shard store node
+has_record shard store (File f) has = by_rec (get store f.0) refl has.1
+  where
+    by_rec : (o : Option FileRec) → get store f.0 ≡ o → option_map (λ (r : FileRec). r.owner) o ≡ Some has.0 → (r : FileRec) × (get store f.0 ≡ Some r)
+    by_rec None is e = cc
+    by_rec (Some r) is e = (r, is)
+has_record shard store (Dir d) has = by_rec (get shard.recs d.0) refl has.1
+  where
+    by_rec : (o : Option DirRec) → get shard.recs d.0 ≡ o → option_map (λ (r : DirRec). r.owner) o ≡ Some has.0 → (r : DirRec) × (get shard.recs d.0 ≡ Some r)
+    by_rec None is e = cc
+    by_rec (Some r) is e = (r, is)
 
 attributes_by : (w : World) → Holds w → AttributesHold w.shard w.store
-attributes_by w h k row e =
-    let f = h.places.only_files k row e in
-    let named : is_named w.shard f.0.0 ≡ true = named_of_row (entries w.shard.rows) k row f.0 (sym (get-entries w.shard.rows k) ∙ e) f.1 in
-    rw f.1 (h.places.named f.0.0 named)
+attributes_by w h k row e = has_record w.shard w.store row.node (h.places.named row.node (named_of_row (entries w.shard.rows) k row (sym (get-entries w.shard.rows k) ∙ e)))
 
-pub attributes_of : (calls : ℕ → List Call) (turns : List ℕ) → AttributesHold (run_of turns (opening calls)).shard (run_of turns (opening calls)).store
-attributes_of calls turns = attributes_by (run_of turns (opening calls)) (holds_of calls turns)
-
--- ---- one more turn
 unmoved_by : (w w' : World) → Past w → Past w' → KeepsUnmoved w w'
 unmoved_by w w' past past' e run none = past'.same ∙ ap space run ∙ ap (after_moved (space w.run)) none ∙ sym past.same
 
 still_by : (w w' : World) → Past w → Past w' → KeepsStill w w'
 still_by w w' past past' run = past'.same ∙ ap space run ∙ sym past.same
 
-turn_past : (calls : ℕ → List Call) (turns : List ℕ) (c : ℕ) → Past (turn (run_of turns (opening calls)) c)
-turn_past calls turns c = (next_of (run_of turns (opening calls)) c (holds_of calls turns)).past (past_of calls turns)
+module _ (setup : Setup) (good : IsSetup setup) (turns : List ℕ) where
+  holds_now : Holds (played setup turns)
+  holds_now = run_keeps setup.counts good.counts turns (opening setup) (opening_holds setup good)
 
-pub one_step_of : (calls : ℕ → List Call) (turns : List ℕ) (c : ℕ) → GrowsByOne (run_of turns (opening calls)) (turn (run_of turns (opening calls)) c)
-one_step_of calls turns c = (next_of (run_of turns (opening calls)) c (holds_of calls turns)).grows
+  past_now : Past (played setup turns)
+  past_now = run_past setup.counts good.counts turns (opening setup) (opening_holds setup good) (record { same = opening_tree; allowed = tt })
 
-pub unmoved_of : (calls : ℕ → List Call) (turns : List ℕ) (c : ℕ) → KeepsUnmoved (run_of turns (opening calls)) (turn (run_of turns (opening calls)) c)
-unmoved_of calls turns c = unmoved_by (run_of turns (opening calls)) (turn (run_of turns (opening calls)) c) (past_of calls turns) (turn_past calls turns c)
+  pub known_of : Known (played setup turns)
+  known_of = known_by (played setup turns) holds_now past_now
 
-pub still_of : (calls : ℕ → List Call) (turns : List ℕ) (c : ℕ) → KeepsStill (run_of turns (opening calls)) (turn (run_of turns (opening calls)) c)
-still_of calls turns c = still_by (run_of turns (opening calls)) (turn (run_of turns (opening calls)) c) (past_of calls turns) (turn_past calls turns c)
+  pub tree_of : tree (played setup turns).shard (played setup turns).store ≡ space (played setup turns).run
+  tree_of = past_now.same
+
+  pub moves_of : MovesAllowed (played setup turns).run
+  moves_of = past_now.allowed
+
+  pub counts_of : CountsHold (played setup turns).shard
+  counts_of = holds_now.places.counts
+
+  pub attributes_of : AttributesHold (played setup turns).shard (played setup turns).store
+  attributes_of = attributes_by (played setup turns) holds_now
+
+  -- ---- one more turn
+  module _ (c : ℕ) where
+    after_turn : Past (turn setup.counts (played setup turns) c)
+    after_turn = (next_of setup.counts good.counts (played setup turns) c holds_now).past past_now
+
+    pub one_step_of : GrowsByOne (played setup turns) (turn setup.counts (played setup turns) c)
+    one_step_of = (next_of setup.counts good.counts (played setup turns) c holds_now).grows
+
+    pub unmoved_of : KeepsUnmoved (played setup turns) (turn setup.counts (played setup turns) c)
+    unmoved_of = unmoved_by (played setup turns) (turn setup.counts (played setup turns) c) past_now after_turn
+
+    pub still_of : KeepsStill (played setup turns) (turn setup.counts (played setup turns) c)
+    still_of = still_by (played setup turns) (turn setup.counts (played setup turns) c) past_now after_turn

@@ -3,7 +3,9 @@
 
 mod names;
 mod nested;
+mod nodes;
 mod numbers;
 
 pub use names::NameMap;
+pub use nodes::NodeSet;
 pub use numbers::NumberMap;

@@ -101,4 +101,12 @@ impl<V> NameMap<V> {
             Err(failed) => Err(failed.value),
         }
     }
+
+    /// Takes the name out, and answers what stood there.
+    pub fn cut(&mut self, name: &Name) -> Option<V>
+        ensures map { self.new ≡ map.remove self.old name.now }
+        ensures before { result ≡ map.get self.old name.now }
+    {
+        self.tree.remove(name)
+    }
 }

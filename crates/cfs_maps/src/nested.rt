@@ -1,7 +1,7 @@
 //! Maps of names in a map of numbers.
 ghost use Rattle.std.specs.Prelude.{◌≡◌, OnOk, OnErr, IfOk, IfErr, IsSome, IsOk, None};
 ghost use Rattle.std.specs.FinMap as map;
-ghost use Rattle.cfs_maps.specs.Nested.{names_of, with_name};
+ghost use Rattle.cfs_maps.specs.Nested.{names_of, with_name, without_name};
 
 use crate::names::NameMap;
 use crate::numbers::NumberMap;
@@ -30,7 +30,20 @@ impl<V: Drop> NumberMap<NameMap<V>> {
         }
     }
 
-    // The same at a key that isn't there.
+    /// Takes the name out at the key, and answers what stood there. A key that has no name left goes too.
+    pub fn cut_name(&mut self, key: u64, name: &Name) -> Option<V>
+        ensures map { self.new ≡ without_name self.old key name.now }
+        ensures before { result ≡ map.get (names_of (map.get self.old key)) name.now }
+    {
+        let names = self.get_mut(key)?;
+        let before = names.cut(name);
+        if names.len() == 0 {
+            let _ = self.cut(key);
+        }
+        before
+    }
+
+    // `set_name` at a key that isn't there.
     fn set_first(
         &mut self,
         alloc: Global,
@@ -123,6 +136,25 @@ mod tests {
         assert_eq!(rt; names.next(Some(&a)), Some((&b, &3)));
         assert_eq!(rt; names.next(Some(&b)), None);
         assert_eq!(rt; names.iter().next(), Some((&a, &5)));
+        Ok(())
+    }
+
+    #[test]
+    fn a_key_goes_with_its_last_name(rt: HostRuntime) -> Result<(), Fail> {
+        let alloc = rt.alloc();
+        let (a, b) = (named(alloc, b"a")?, named(alloc, b"b")?);
+        let mut rows = NumberMap::new(alloc);
+        assert_eq!(rt;
+            rows.set_name(alloc, 64, named(alloc, b"a")?, 1u64),
+            Ok(None)
+        );
+        assert_eq!(rt; rows.set_name(alloc, 64, named(alloc, b"b")?, 2), Ok(None));
+        assert_eq!(rt; rows.cut_name(65, &a), None);
+        assert_eq!(rt; rows.cut_name(64, &a), Some(1));
+        assert_eq!(rt; rows.cut_name(64, &a), None);
+        assert_eq!(rt; rows.len(), 1);
+        assert_eq!(rt; rows.cut_name(64, &b), Some(2));
+        assert_eq!(rt; rows.len(), 0);
         Ok(())
     }
 }

@@ -2,10 +2,11 @@
 use Rattle.std.specs.Prelude.{ℕ, List, [], ◌∷◌, ◌++◌, length, codes, decimal, flat_map, Option, Some, None}
 use Rattle.std.specs.List.{concat}
 use Rattle.cfs_ids.specs.Errnos.{text_of}
+use Rattle.cfs_ids.specs.declared.ids.DirId.{DirId}
 use Rattle.cfs_ids.specs.declared.ids.Node.{Node}
 use Rattle.cfs_ids.specs.declared.errno.Errno.{Errno}
 use Rattle.cfs_ids.specs.declared.call.Call.{Call}
-use Rattle.cfs_ids.specs.declared.call.Call.TheVariants.{Lookup, List as ListCall, Create}
+use Rattle.cfs_ids.specs.declared.call.Call.TheVariants.{Lookup, List as ListCall, Create, Mkdir}
 use Rattle.cfs_ids.specs.declared.call.Reply.{Reply}
 use Rattle.cfs_ids.specs.declared.call.Reply.TheVariants as reply
 use Rattle.cfs_steps.specs.declared.line.Line.{Line}
@@ -15,11 +16,16 @@ use Rattle.cfs_steps.specs.declared.line.HistoryItem.{HistoryItem}
 use Rattle.cfs_steps.specs.declared.line.HistoryItem.TheVariants.{Line as LineItem}
 use Rattle.cfs_print.specs.Pieces.{node_text, position_text}
 
+-- the name of a call, a directory and a name in it
+unfoldable pub named_call : List ℕ → DirId → List ℕ → List ℕ
+named_call call dir name = concat (call ∷ codes " " ∷ decimal dir.0 ∷ codes " " ∷ name ∷ [])
+
 -- the name of the call and its fields
 unfoldable pub call_text : Call → List ℕ
-call_text (Lookup dir name) = concat (codes "lookup " ∷ decimal dir.0 ∷ codes " " ∷ name ∷ [])
+call_text (Lookup dir name) = named_call (codes "lookup") dir name
 call_text (ListCall dir) = concat (codes "list " ∷ decimal dir.0 ∷ [])
-call_text (Create dir name) = concat (codes "create " ∷ decimal dir.0 ∷ codes " " ∷ name ∷ [])
+call_text (Create dir name) = named_call (codes "create") dir name
+call_text (Mkdir dir name) = named_call (codes "mkdir") dir name
 
 -- r NAME NODE
 unfoldable pub row_line : List ℕ × Node → List ℕ

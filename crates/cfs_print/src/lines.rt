@@ -2,13 +2,38 @@
 ghost use Rattle.std.specs.Prelude.{OnOk, flat_map};
 ghost use Rattle.cfs_io.specs.Causes.{HasCause};
 ghost use Rattle.cfs_print.specs.Passing.{Adds, AddsFront};
-ghost use Rattle.cfs_print.specs.Lines.{call_text, row_line, rows_head, rows_text, node_end, errno_end, moved_end, unfinished_end, reply_end, outcome_end, line_start, line_text, item_text};
+ghost use Rattle.cfs_print.specs.Lines.{named_call, call_text, row_line, rows_head, rows_text, node_end, errno_end, moved_end, unfinished_end, reply_end, outcome_end, line_start, line_text, item_text};
 
 use crate::output::{Page, Piece, put, put_all};
 use Piece::{Number, Position, Text};
 use cfs_history::{HistoryItem, Line, Outcome};
-use cfs_ids::{Call, Errno, Name, Node, Reply, Ts, errno_text};
+use cfs_ids::{Call, DirId, Errno, Name, Node, Reply, Ts, errno_text};
 use cfs_io::{Failed, Sink};
+
+#[tactic(auto, using(crate::proofs::Passed::passing), unfolding(crate::specs::Lines::named_call))]
+fn put_named<'a, K: Sink>(
+    sink: &mut K,
+    page: &mut Page,
+    call: &'a [u8],
+    dir: DirId,
+    name: &'a Name,
+) -> Result<(), Failed>
+    ensures ok { OnOk result (Adds (K.taken sink.old) page.old.items (K.taken sink.new) page.new.items (named_call call.now dir name.now)) }
+    ensures front { AddsFront (K.taken sink.old) page.old.items (K.taken sink.new) (named_call call.now dir name.now) }
+    ensures cause { HasCause (K.faults sink.old) (K.faults sink.new) result }
+{
+    put_all(
+        sink,
+        page,
+        &[
+            Text(call),
+            Text(b" "),
+            Number(dir.0),
+            Text(b" "),
+            Text(name.as_bytes()),
+        ],
+    )
+}
 
 #[tactic(auto, using(crate::proofs::Passed::passing), unfolding(crate::specs::Lines::call_text))]
 fn put_call<K: Sink>(sink: &mut K, page: &mut Page, call: &Call) -> Result<(), Failed>
@@ -17,27 +42,10 @@ fn put_call<K: Sink>(sink: &mut K, page: &mut Page, call: &Call) -> Result<(), F
     ensures cause { HasCause (K.faults sink.old) (K.faults sink.new) result }
 {
     match call {
-        Call::Lookup { dir, name } => put_all(
-            sink,
-            page,
-            &[
-                Text(b"lookup "),
-                Number(dir.0),
-                Text(b" "),
-                Text(name.as_bytes()),
-            ],
-        ),
+        Call::Lookup { dir, name } => put_named(sink, page, b"lookup", *dir, name),
         Call::List { dir } => put_all(sink, page, &[Text(b"list "), Number(dir.0)]),
-        Call::Create { dir, name } => put_all(
-            sink,
-            page,
-            &[
-                Text(b"create "),
-                Number(dir.0),
-                Text(b" "),
-                Text(name.as_bytes()),
-            ],
-        ),
+        Call::Create { dir, name } => put_named(sink, page, b"create", *dir, name),
+        Call::Mkdir { dir, name } => put_named(sink, page, b"mkdir", *dir, name),
     }
 }
 

@@ -1,8 +1,10 @@
 pub mod Facts
 pub mod Histories
+pub mod Homes
 pub mod Known
 pub mod Legal
 pub mod Members
 pub mod Places
+pub mod Several
 pub mod Trees
 pub mod Worlds

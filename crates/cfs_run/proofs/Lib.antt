@@ -1,3 +1,4 @@
 pub mod Answered
 pub mod Members
 pub mod Printing
+pub mod Setups

@@ -13,7 +13,7 @@ use Rattle.cfs_view.specs.declared.counts.Tallied.{Tallied}
 use Rattle.cfs_view.specs.Tallies.{tallied}
 use Rattle.cfs_view.specs.Views.{held}
 use Rattle.cfs_run.specs.Replies.{replies_of}
-use Rattle.cfs_run.specs.Runs.{IsPrintedOf, world_after}
+use Rattle.cfs_run.specs.Runs.{IsReplayOf, world_after}
 use Rattle.cfs_run.proofs.Members.{rising}
 
 -- the parts of a run, printed
@@ -21,7 +21,7 @@ pub of-run : (script : Script) (run : Run) (p : Printed) → IsInForm script →
     → IsJudged (members_in script.commands) (world_after script) p.history
     → p.shards ≡ script.shards → p.stores ≡ script.stores → p.replies ≡ replies_of run.calls.items
     → p.tree ≡ tree (held run.places).shard (held run.places).store → p.steps ≡ length run.entries → p.tally ≡ tallied (held run.places)
-    → IsPrintedOf (members_in script.commands) (world_after script) p
+    → IsReplayOf script p
 of-run script run p form of judged shards stores replies trees steps tally = record {
   legal = judged.legal;
   last = judged.last ∙ sym printed_tree;
@@ -31,12 +31,12 @@ of-run script run p form of judged shards stores replies trees steps tally = rec
   tree = printed_tree;
   replies = replies ∙ ap replies_of (of.calls (rising 0 script.commands form.rising).1);
   steps = steps ∙ sym (length-reverse run.entries) ∙ ap length of.entries;
-  owed = ap (λ (t : Tallied). t.owed) tally ∙ ap owed_in of.store;
+  owed = ap (λ (t : Tallied). t.owed) tally ∙ (λ j. owed_in (of.shard j) (of.store j));
   debts = ap (λ (t : Tallied). t.debts) tally;
   marks = ap (λ (t : Tallied). t.marks) tally;
   strays = ap (λ (t : Tallied). t.strays) tally ∙ (λ j. strays_in (of.shard j) (of.store j) (of.roster j));
-  shards = shards ∙ form.one_shard;
-  stores = stores ∙ form.one_store;
+  shards = shards;
+  stores = stores;
 }
   where
     printed_tree : p.tree ≡ tree (world_after script).shard (world_after script).store

@@ -4,7 +4,7 @@ ghost use Rattle.cfs_ids.specs.declared.ids.PlaceNo.{PlaceNo};
 ghost use Rattle.cfs_core.specs.Finished.{IsRunOf};
 ghost use Rattle.cfs_core.specs.Opening.{members_in};
 ghost use Rattle.cfs_script.specs.Outcomes.{IsInForm};
-ghost use Rattle.cfs_run.specs.Runs.{IsPrintedOf, IsReplayOf, world_after};
+ghost use Rattle.cfs_run.specs.Runs.{IsReplayOf, world_after};
 
 use crate::replies::replies_of;
 use cfs_core::{Core, Run};
@@ -49,7 +49,7 @@ fn run_of(alloc: Global, script: &Script) -> Result<Run, RunFault>
 fn printed_of(alloc: Global, script: &Script, run: &Run) -> Result<Printed, NoMemory>
     requires form { IsInForm script.now }
     requires run { IsRunOf (members_in script.now.commands) (world_after script.now) run.now }
-    ensures { IfOk result (λ printed. IsPrintedOf (members_in script.now.commands) (world_after script.now) printed) }
+    ensures { IfOk result (λ printed. IsReplayOf script.now printed) }
 {
     Ok(Printed {
         shards: script.shards,

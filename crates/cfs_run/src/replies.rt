@@ -1,5 +1,5 @@
 //! The replies to the commands of a script.
-ghost use Rattle.std.specs.Prelude.{◌≡◌, ◌++◌, ◌+◌, OnOk, IfOk, length};
+ghost use Rattle.std.specs.Prelude.{◌≡◌, ◌++◌, ◌+◌, OnOk, IfOk};
 ghost use Rattle.cfs_run.specs.Replies.{all_answered, unanswered, replies_of_client, replies_of};
 
 use cfs_ids::{Call, Client, NoMemory, Stamp};

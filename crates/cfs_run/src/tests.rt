@@ -4,7 +4,9 @@ ghost use Rattle.std.specs.Prelude.{◌<◌};
 mod creates;
 mod faults;
 mod many;
+mod mkdirs;
 mod names;
+mod places;
 mod refusals;
 
 use crate::{FreeGate, Status, cfs_words, replay, replay_bytes};

@@ -5,7 +5,7 @@ use Rattle.std.proofs.lemmas.List.Splits.{slice_split_first, length-slice_split}
 use Rattle.std.proofs.lemmas.Bool.Decides.{nat_tests}
 use Rattle.cfs_script.specs.Pieces.{pieces, lines, rest_of_lines}
 use Rattle.cfs_script.specs.declared.reading.Reading.{Reading}
-use Rattle.cfs_script.specs.Scripts.{client_line, turns_line, with_turns}
+use Rattle.cfs_script.specs.Scripts.{client_line, turns_line, with_turns, places_line}
 
 -- no such byte
 split_none : (p : ℕ → Bool) (xs : List ℕ) → length xs ≤ position_or_len p xs → slice_split p xs ≡ xs ∷ []
@@ -57,6 +57,10 @@ pub ruleset cutting = (pieces_none, pieces_some, lines_none, rest_of_lines_none,
 pub client_line_long : (r : Reading) (a b c rest : List ℕ) → client_line r (a ∷ b ∷ c ∷ pieces 32 rest) ≡ None
 unfolding client_line
 client_line_long r a b c rest = let some = some_pieces 32 rest in rw some.2 refl
+
+pub places_line_long : (a b c rest : List ℕ) → places_line (a ∷ b ∷ c ∷ pieces 32 rest) ≡ None
+unfolding places_line
+places_line_long a b c rest = let some = some_pieces 32 rest in rw some.2 refl
 
 pub turns_line_is : (r : Reading) (rest : List ℕ) → turns_line r (pieces 32 rest) ≡ with_turns r (pieces 32 rest)
 unfolding turns_line

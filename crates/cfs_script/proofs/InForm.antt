@@ -1,5 +1,5 @@
 -- A script that is read is in form.
-use Rattle.std.proofs.Common.{◌≡◌, ℕ, ◌<◌, ◌≤◌, ◌+◌, nat_le, nat_lt, ◌==◌, Bool, true, false, cond, ◌&&◌, List, [], ◌∷◌, ◌++◌, length, length-append, refl, arith, Option, Some, None, Ok, Err, take}
+use Rattle.std.proofs.Common.{◌≡◌, ℕ, ◌<◌, ◌≤◌, ◌+◌, nat_le, nat_lt, ◌==◌, Bool, true, false, cond, ◌&&◌, List, [], ◌∷◌, ◌++◌, length, length-append, refl, arith, Option, Some, None, Ok, take}
 use Rattle.std.specs.Prelude.{IsTrue, not, ◌||◌, codes, option_and_then}
 use Rattle.std.specs.List.{list_all}
 use Rattle.std.specs.Str.{bytes_eq}
@@ -10,21 +10,15 @@ use Rattle.cfs_ids.specs.declared.ids.Actor.TheVariants.{Client as ClientTurn}
 use Rattle.cfs_script.specs.declared.command.Command.{Command}
 use Rattle.cfs_script.specs.declared.script.Script.{Script}
 use Rattle.cfs_script.specs.declared.reading.Reading.{Reading}
-use Rattle.cfs_script.specs.Fields.{is_numeral, value, client_of, command_of}
+use Rattle.cfs_script.specs.Fields.{client_of, command_of}
+use Rattle.cfs_script.specs.Forms.{IsCount}
 use Rattle.cfs_script.specs.Lists.{is_in}
 use Rattle.cfs_script.specs.Pieces.{pieces, lines, rest_of_lines}
-use Rattle.cfs_script.specs.Scripts.{is_list, start, ordered, turned, with_order, client_line, with_turn, with_turns, turns_line, by_fields, with_line, or_line, after_lines, by_lines, script_of, most_bytes}
+use Rattle.cfs_script.specs.Scripts.{is_list, start, ordered, turned, with_order, client_line, with_turn, with_turns, turns_line, places_line, by_fields, with_line, or_line, after_lines, by_lines, script_of, most_bytes}
 use Rattle.cfs_script.specs.Outcomes.{IsInForm, is_turn_of}
+use Rattle.cfs_script.proofs.Opening.{places_line-opened}
 use Rattle.cfs_script.proofs.Rising.{rises_from-with_command}
-
--- a client's number is 1 to 32
-pub client_of-range : (word : List ℕ) (c : Client) → client_of word ≡ Some c → (0 < c.0) × (c.0 ≤ 32)
-unfolding client_of
-client_of-range word c e = by_test (is_numeral word && nat_lt 0 (value word) && nat_le (value word) 32) refl e
-  where
-    by_test : (b : Bool) → (is_numeral word && nat_lt 0 (value word) && nat_le (value word) 32) ≡ b → cond b (Some (record { 0 = value word })) None ≡ Some c → (0 < c.0) × (c.0 ≤ 32)
-    by_test false t e = cc
-    by_test true t e = let is : value word ≡ c.0 = cc in let low : 0 < value word = grind (arith, nat_tests) in let high : value word ≤ 32 = grind (arith, nat_tests) in (rw (← is) low, rw (← is) high)
+use Rattle.cfs_script.proofs.Words.{client_of-range}
 
 pub no_items : {X : Type 0} (xs : List X) → length xs ≡ 0 → xs ≡ []
 no_items [] e = refl
@@ -32,8 +26,8 @@ no_items (x ∷ xs) e = absurd (omega arith)
 
 ordered-keeps : (r : Reading) (c : Client) (x : Command) → 0 < c.0 → c.0 ≤ 32 → length r.script.turns ≡ 0 → IsInForm r.script → IsInForm (ordered r c x).script
 ordered-keeps r c x low high none h = let empty : r.script.turns ≡ [] = no_items r.script.turns none in record {
-  one_shard = h.one_shard;
-  one_store = h.one_store;
+  shards = h.shards;
+  stores = h.stores;
   rising = rises_from-with_command 0 r.script.commands c x low high h.rising;
   members = rw empty refl;
   few = h.few;
@@ -51,8 +45,8 @@ with_order-keeps r (Some c) (Some x) s range h e = by_test (length r.script.turn
 
 turned-keeps : (r : Reading) (c : Client) → IsTrue (is_in r.script.commands c) → length r.script.turns < 1000000 → IsInForm r.script → IsInForm (turned r c).script
 turned-keeps r c member few h = let len = length-append r.script.turns (ClientTurn c ∷ []) in record {
-  one_shard = h.one_shard;
-  one_store = h.one_store;
+  shards = h.shards;
+  stores = h.stores;
   rising = h.rising;
   members = list_all-more (is_turn_of r.script.commands) r.script.turns (ClientTurn c) h.members member;
   few = omega (arith, len);
@@ -121,17 +115,20 @@ after_lines-keeps number r (line ∷ more) ends script h e = by_line (with_line 
     by_line None o e rest = cc
     by_line (Some s) o e rest = rest s (with_line-keeps r line s h o) e
 
-start-in_form : IsInForm start.script
-start-in_form = record { one_shard = refl; one_store = refl; rising = refl; members = refl; few = omega arith }
+start-in_form : (shards stores : ℕ) → IsCount shards → IsCount stores → IsInForm (start shards stores).script
+start-in_form shards stores few_shards few_stores = record { shards = few_shards; stores = few_stores; rising = refl; members = refl; few = omega arith }
+
+opening-in_form : (fields : List (List ℕ)) (r : Reading) → places_line fields ≡ Some r → IsInForm r.script
+opening-in_form fields r e = let o = places_line-opened fields r e in rw (← o.is) (start-in_form o.shards o.stores o.few_shards o.few_stores)
 
 by_lines-in_form : (text : List (List ℕ)) (ends : Bool) (script : Script) → by_lines text ends ≡ Ok script → IsInForm script
 unfolding by_lines
 by_lines-in_form [] ends script e = cc
-by_lines-in_form (first ∷ more) ends script e = by_test (bytes_eq first (codes "places 1 1")) e
+by_lines-in_form (first ∷ more) ends script e = by_first (places_line (pieces 32 first)) refl e
   where
-    by_test : (b : Bool) → cond b (after_lines 2 start more ends) (Err 1) ≡ Ok script → IsInForm script
-    by_test true e = after_lines-keeps 2 start more ends script start-in_form e
-    by_test false e = cc
+    by_first : (o : Option Reading) → places_line (pieces 32 first) ≡ o → or_line o 1 (λ r. after_lines 2 r more ends) ≡ Ok script → IsInForm script
+    by_first None o e = cc
+    by_first (Some r) o e = after_lines-keeps 2 r more ends script (opening-in_form (pieces 32 first) r o) e
 
 -- each script that bytes say is in form
 pub script_of-in_form : (bytes : List ℕ) (script : Script) → script_of bytes ≡ Ok script → IsInForm script

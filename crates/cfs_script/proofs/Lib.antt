@@ -5,6 +5,7 @@ pub mod Grouping
 pub mod InForm
 pub mod Joined
 pub mod Limits
+pub mod Opening
 pub mod Rising
 pub mod Told
 pub mod Values

@@ -10,7 +10,7 @@ use Rattle.cfs_script.specs.declared.command.Command.{Command}
 use Rattle.cfs_script.specs.declared.script.Script.{Script}
 use Rattle.cfs_script.specs.declared.script.ScriptRefusal.{ScriptRefusal}
 use Rattle.cfs_script.specs.declared.script.ScriptRefusal.TheVariants.{ReadFault, Bad, NoMemory}
-use Rattle.cfs_script.specs.Forms.{IsScript}
+use Rattle.cfs_script.specs.Forms.{IsCount, IsScript}
 use Rattle.cfs_script.specs.Lists.{rises_from, is_in}
 use Rattle.cfs_script.specs.Scripts.{script_of, most_bytes}
 
@@ -20,8 +20,8 @@ is_turn_of lists (ClientTurn client) = is_in lists client
 
 -- what holds of each script that is read
 pub record IsInForm (script : Script) : Type 0 where
-  pub one_shard : script.shards ≡ 1
-  pub one_store : script.stores ≡ 1
+  pub shards : IsCount script.shards
+  pub stores : IsCount script.stores
   -- the clients rise strictly, from 1 to 32
   pub rising : IsTrue (rises_from 0 script.commands)
   -- each turn is of a client that has commands

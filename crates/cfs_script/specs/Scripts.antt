@@ -4,10 +4,10 @@ use Rattle.std.specs.Str.{bytes_eq}
 use Rattle.cfs_ids.specs.declared.ids.Client.{Client}
 use Rattle.cfs_ids.specs.declared.ids.Actor.TheVariants.{Client as ClientTurn}
 use Rattle.cfs_script.specs.declared.command.Command.{Command}
-use Rattle.cfs_script.specs.declared.command.Command.TheVariants.{Create, Lookup, List as ListCommand}
+use Rattle.cfs_script.specs.declared.command.Command.TheVariants.{Create, Mkdir, Lookup, List as ListCommand}
 use Rattle.cfs_script.specs.declared.script.Script.{Script}
 use Rattle.cfs_script.specs.declared.reading.Reading.{Reading}
-use Rattle.cfs_script.specs.Fields.{client_of, command_of}
+use Rattle.cfs_script.specs.Fields.{client_of, count_of, command_of}
 use Rattle.cfs_script.specs.Lists.{is_in, with_command}
 use Rattle.cfs_script.specs.Pieces.{pieces, lines, rest_of_lines}
 
@@ -19,11 +19,23 @@ kept false r = None
 abbrev pub is_list : Command → Bool
 is_list ListCommand = true
 is_list (Create name) = false
+is_list (Mkdir name) = false
 is_list (Lookup name) = false
 
 -- nothing was read but the first line
-abbrev pub start : Reading
-start = record { script = record { shards = 1; stores = 1; commands = []; turns = [] }; commands = 0; lists = 0 }
+abbrev pub start : ℕ → ℕ → Reading
+start shards stores = record { script = record { shards = shards; stores = stores; commands = []; turns = [] }; commands = 0; lists = 0 }
+
+-- what the counts of the first line open
+unfoldable pub with_counts : Option ℕ → Option ℕ → Option Reading
+with_counts None stores = None
+with_counts (Some shards) None = None
+with_counts (Some shards) (Some stores) = Some (start shards stores)
+
+-- the fields of the first line
+unfoldable pub places_line : List (List ℕ) → Option Reading
+places_line (word ∷ shards ∷ stores ∷ []) = if bytes_eq word (codes "places") then with_counts (count_of shards) (count_of stores) else None
+places_line fields = None
 
 -- the script with one more command
 abbrev pub ordered : Reading → Client → Command → Reading
@@ -91,7 +103,7 @@ after_lines number r (line ∷ more) ends = or_line (with_line r line) number (�
 
 unfoldable pub by_lines : List (List ℕ) → Bool → Result Script ℕ
 by_lines [] ends = Err 1
-by_lines (first ∷ more) ends = if bytes_eq first (codes "places 1 1") then after_lines 2 start more ends else Err 1
+by_lines (first ∷ more) ends = or_line (places_line (pieces 32 first)) 1 (λ r. after_lines 2 r more ends)
 
 -- the greatest number of bytes
 unfoldable pub most_bytes : ℕ

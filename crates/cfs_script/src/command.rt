@@ -1,35 +1,22 @@
 //! What a client is to do.
 ghost use Rattle.std.specs.Prelude.{◌≡◌, ◌++◌, ◌∷◌, [], length, slice_get, OnOk, OnErr, IfErr};
 ghost use Rattle.std.specs.Option.{option_copied};
-ghost use Rattle.cfs_script.specs.Calls.{call_of};
 
-use cfs_ids::{Call, DirId, Name};
+use cfs_ids::Name;
 use std::alloc::Global;
 use std::marker::Model;
 
-/// A command of a script. Each is on the root, the only directory that a script of this form knows.
+/// A command of a script. Each is on the root, the only directory whose rows a script of this form names.
 #[derive(Debug, Drop)]
 pub enum Command {
     /// A new file in the root.
     Create(Name),
+    /// A new directory in the root.
+    Mkdir(Name),
     /// The node of a name in the root.
     Lookup(Name),
     /// The rows of the root.
     List,
-}
-
-impl Command {
-    /// The call that the client makes.
-    pub fn into_call(self) -> Call
-        ensures { result ≡ call_of self }
-    {
-        let dir = DirId(0);
-        match self {
-            Command::Create(name) => Call::Create { dir, name },
-            Command::Lookup(name) => Call::Lookup { dir, name },
-            Command::List => Call::List { dir },
-        }
-    }
 }
 
 /// The commands of a client in the order of their lines.

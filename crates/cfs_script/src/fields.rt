@@ -1,8 +1,7 @@
 //! The fields of a line.
 ghost use Rattle.std.specs.Prelude.{◌≡◌, ◌<◌, ◌≤◌, IfSome, ◌^◌, nat_le, Some, None, if◌then◌else◌, IfOk};
-ghost use Rattle.std.specs.Option.{option_copied};
 ghost use Rattle.std.specs.List.{list_all};
-ghost use Rattle.cfs_script.specs.Fields.{is_digit, is_numeral, value, client_of, is_dots, entry_of, name_of, command_of};
+ghost use Rattle.cfs_script.specs.Fields.{is_digit, is_numeral, value, number_of, client_of, count_of, is_dots, entry_of, name_of, command_of};
 
 use crate::command::Command;
 use cfs_ids::{Client, Name, NameFault, NoMemory};
@@ -45,6 +44,21 @@ fn value_within(word: &[u8], most: u32) -> Option<u32>
     Some(number)
 }
 
+// The number, where it is 1 to `most`.
+#[tactic(auto, unfolding(crate::specs::Fields::number_of))]
+fn number_within(word: &[u8], most: u32) -> Option<u32>
+    requires { most < 2 ^ 28 }
+    ensures number { result ≡ number_of most word.now }
+    ensures low { IfSome result (λ number. 0 < number) }
+    ensures high { IfSome result (λ number. number ≤ most) }
+{
+    if !numeral(word) {
+        return None;
+    }
+    let number = value_within(word, most)?;
+    if number == 0 { None } else { Some(number) }
+}
+
 // The client of this number.
 #[tactic(auto, unfolding(crate::specs::Fields::client_of))]
 pub fn client_at(word: &[u8]) -> Option<Client>
@@ -52,15 +66,16 @@ pub fn client_at(word: &[u8]) -> Option<Client>
     ensures low { IfSome result (λ client. 0 < client.0) }
     ensures high { IfSome result (λ client. client.0 ≤ 32) }
 {
-    if !numeral(word) {
-        return None;
-    }
-    let number = value_within(word, 32)?;
-    if number == 0 {
-        None
-    } else {
-        Some(Client(number))
-    }
+    let number = number_within(word, 32)?;
+    Some(Client(number))
+}
+
+// How many shards or stores.
+#[tactic(auto, unfolding(crate::specs::Fields::count_of))]
+pub fn count_at(word: &[u8]) -> Option<u32>
+    ensures { result ≡ count_of word.now }
+{
+    number_within(word, 64)
 }
 
 #[tactic(auto, unfolding(crate::specs::Fields::is_dots))]
@@ -105,6 +120,11 @@ pub fn command(alloc: Global, word: &[u8], path: &[u8]) -> Result<Option<Command
         match name(alloc, path)? {
             None => Ok(None),
             Some(name) => Ok(Some(Command::Create(name))),
+        }
+    } else if word == b"mkdir".as_slice() {
+        match name(alloc, path)? {
+            None => Ok(None),
+            Some(name) => Ok(Some(Command::Mkdir(name))),
         }
     } else if word == b"lookup".as_slice() {
         match name(alloc, path)? {

@@ -1,13 +1,13 @@
 //! Reading a script line by line.
 ghost use Rattle.std.specs.Prelude.{◌≡◌, ◌==◌, ◌&&◌, length, IfOk};
 ghost use Rattle.cfs_script.specs.Pieces.{pieces, lines, rest_of_lines};
-ghost use Rattle.cfs_script.specs.Fields.{client_of, command_of};
-ghost use Rattle.cfs_script.specs.Scripts.{kept, is_list, start, with_order, client_line, with_turn, with_turns, turns_line, by_fields, with_line, after_lines, by_lines};
+ghost use Rattle.cfs_script.specs.Fields.{client_of, count_of, command_of};
+ghost use Rattle.cfs_script.specs.Scripts.{kept, is_list, start, with_order, client_line, with_turn, with_turns, turns_line, with_counts, places_line, by_fields, with_line, after_lines, by_lines};
 ghost use Rattle.cfs_script.specs.Outcomes.{Gives};
 
 use crate::command::Command;
 use crate::cut::{cut_at, cut_line};
-use crate::fields::{client_at, command};
+use crate::fields::{client_at, command, count_at};
 use crate::lists::CommandLists;
 use crate::reading::Reading;
 use crate::script::{Fault, Script, ScriptRefusal};
@@ -142,13 +142,13 @@ fn bad(line: u64) -> ScriptRefusal
     }
 }
 
-fn opening(alloc: Global) -> Reading
-    ensures { result ≡ start }
+fn opening(alloc: Global, shards: u32, stores: u32) -> Reading
+    ensures { result ≡ start shards stores }
 {
     Reading {
         script: Script {
-            shards: 1,
-            stores: 1,
+            shards,
+            stores,
             commands: CommandLists::new(alloc),
             turns: TurnList::new(alloc),
         },
@@ -157,11 +157,42 @@ fn opening(alloc: Global) -> Reading
     }
 }
 
-#[tactic(auto, unfolding(crate::specs::Scripts::after_lines))]
-fn read_lines(alloc: Global, text: &[u8], within: bool) -> Result<Script, ScriptRefusal>
-    ensures { Gives result (after_lines 2 start (lines text.now) (length (rest_of_lines text.now) == 0 && within)) }
+#[tactic(auto, unfolding(crate::specs::Scripts::with_counts))]
+fn counted(alloc: Global, shards: &[u8], stores: &[u8]) -> Option<Reading>
+    ensures { result ≡ with_counts (count_of shards.now) (count_of stores.now) }
 {
-    let mut reading = opening(alloc);
+    let shards = count_at(shards)?;
+    let stores = count_at(stores)?;
+    Some(opening(alloc, shards, stores))
+}
+
+// The reading behind the first line.
+#[tactic(auto, using(crate::proofs::Cutting::places_line_long), unfolding(crate::specs::Scripts::places_line))]
+fn opened(alloc: Global, line: &[u8]) -> Option<Reading>
+    ensures { result ≡ places_line (pieces 32 line.now) }
+{
+    let (word, counts) = cut_at(line, b' ')?;
+    let (shards, stores) = cut_at(counts, b' ')?;
+    if let Some((_, _)) = cut_at(stores, b' ') {
+        return None;
+    }
+    if word == b"places".as_slice() {
+        counted(alloc, shards, stores)
+    } else {
+        None
+    }
+}
+
+#[tactic(auto, unfolding(crate::specs::Scripts::after_lines))]
+fn read_lines(
+    alloc: Global,
+    first: Reading,
+    text: &[u8],
+    within: bool,
+) -> Result<Script, ScriptRefusal>
+    ensures { Gives result (after_lines 2 first (lines text.now) (length (rest_of_lines text.now) == 0 && within)) }
+{
+    let mut reading = first;
     let mut number = 2;
     let mut rest = text;
     while let Some((line, more)) = cut_line(rest) {
@@ -185,14 +216,11 @@ fn read_lines(alloc: Global, text: &[u8], within: bool) -> Result<Script, Script
 pub fn read_text(alloc: Global, text: &[u8], within: bool) -> Result<Script, ScriptRefusal>
     ensures { Gives result (by_lines (lines text.now) (length (rest_of_lines text.now) == 0 && within)) }
 {
-    match cut_line(text) {
-        Some((first, rest)) => {
-            if first == b"places 1 1".as_slice() {
-                read_lines(alloc, rest, within)
-            } else {
-                Err(bad(1))
-            }
-        }
+    let Some((line, rest)) = cut_line(text) else {
+        return Err(bad(1));
+    };
+    match opened(alloc, line) {
+        Some(reading) => read_lines(alloc, reading, rest, within),
         None => Err(bad(1)),
     }
 }

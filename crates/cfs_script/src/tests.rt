@@ -43,17 +43,31 @@ fn the_first_line_that_breaks_the_form(rt: HostRuntime) -> Result<(), Fail> {
         ("", 1),
         ("places 1 1", 1),
         ("places 1 1\n", 0),
-        ("places 1 2\n", 1),
-        ("places 2 1\n", 1),
+        ("places 1 2\n", 0),
+        ("places 64 64\n", 0),
+        ("places 65 1\n", 1),
+        ("places 1 65\n", 1),
+        ("places 0 1\n", 1),
+        ("places 1 0\n", 1),
+        ("places 4294967297 1\n", 1),
+        ("places 1\n", 1),
+        ("places\n", 1),
+        ("places 1 1 1\n", 1),
+        ("places 1 +1\n", 1),
+        ("places -1 1\n", 1),
+        ("place 1 1\n", 1),
+        ("client 1 list /\n", 1),
         ("places  1 1\n", 1),
         ("places 1 1 \n", 1),
         ("places 01 1\n", 1),
+        ("places 1 01\n", 1),
         ("places 1 1\r\n", 1),
         ("places 1 1\r", 1),
         ("\nplaces 1 1\n", 1),
         ("places 1 1\n\n", 2),
         ("places 1 1\n# note\n", 2),
         ("places 1 1\nplaces 1 1\n", 2),
+        ("places 1 1\nclient 1 list /\nplaces 1 1\n", 3),
         ("places 1 1\nclient 1 list /\n", 0),
         ("places 1 1\nclient 32 list /\n", 0),
         ("places 1 1\nclient 33 list /\n", 2),
@@ -72,6 +86,17 @@ fn the_first_line_that_breaks_the_form(rt: HostRuntime) -> Result<(), Fail> {
         ("places 1 1\nclient 1 list\n", 2),
         ("places 1 1\nclient 1 list / /\n", 2),
         ("places 1 1\nclient 1 stat /\n", 2),
+        ("places 1 1\nclient 1 mkdir /a\n", 0),
+        ("places 1 1\nclient 1 mkdir /a\nclient 1 create /a\n", 0),
+        ("places 1 1\nclient 1 mkdir /\n", 2),
+        ("places 1 1\nclient 1 mkdir a\n", 2),
+        ("places 1 1\nclient 1 mkdir /a/b\n", 2),
+        ("places 1 1\nclient 1 mkdir /..\n", 2),
+        ("places 1 1\nclient 1 mkdirs /a\n", 2),
+        (
+            "places 1 1\nclient 1 list /\nturns 1\nclient 1 mkdir /a\n",
+            4,
+        ),
         ("places 1 1\nclient 1 create /\n", 2),
         ("places 1 1\nclient 1 create a\n", 2),
         ("places 1 1\nclient 1 create /a/b\n", 2),
@@ -171,7 +196,7 @@ fn the_large_limits(rt: HostRuntime) -> Result<(), Fail> {
 #[test]
 fn a_script(rt: HostRuntime) -> Result<(), Fail> {
     let text =
-        "places 1 1\nclient 7 create /a\nclient 2 list /\nclient 7 lookup /b\nturns 7 2\nturns 7\n";
+        "places 3 2\nclient 7 create /a\nclient 2 list /\nclient 7 lookup /b\nclient 7 mkdir /c\nturns 7 2\nturns 7\n";
     let bytes = Vec::from_slice(rt.alloc(), text.as_bytes())?;
     let mut source = MemSource::new(bytes, 5, Vec::new(rt.alloc()));
     let Ok(script) = read_script(rt.alloc(), &mut source) else {
@@ -184,7 +209,7 @@ fn a_script(rt: HostRuntime) -> Result<(), Fail> {
         commands,
         turns,
     } = script;
-    assert_eq!(rt; (shards, stores), (1, 1));
+    assert_eq!(rt; (shards, stores), (3, 2));
     assert_eq!(rt; turns.len(), 3);
     for (i, client) in [(0usize, 7u32), (1, 2), (2, 7)] {
         assert_eq!(rt; turns.get(i), Some(&Actor::Client(Client(client))));
@@ -192,11 +217,12 @@ fn a_script(rt: HostRuntime) -> Result<(), Fail> {
     assert_eq!(rt; commands.len(), 2);
     for (i, (client, list)) in commands.into_inner().into_iter().enumerate() {
         assert_eq!(rt; client, Client(if i == 0 { 2 } else { 7 }));
-        assert_eq!(rt; list.len(), i + 1);
+        assert_eq!(rt; list.len(), if i == 0 { 1 } else { 3 });
         for command in list.into_vec() {
             match command {
                 Command::Create(name) => assert_eq!(rt; name.as_bytes(), "a".as_bytes()),
                 Command::Lookup(name) => assert_eq!(rt; name.as_bytes(), "b".as_bytes()),
+                Command::Mkdir(name) => assert_eq!(rt; name.as_bytes(), "c".as_bytes()),
                 Command::List => assert_eq!(rt; i, 0),
             }
         }
@@ -206,7 +232,7 @@ fn a_script(rt: HostRuntime) -> Result<(), Fail> {
 
 #[test]
 fn a_source_that_fails(rt: HostRuntime) -> Result<(), Fail> {
-    let bytes = Vec::from_slice(rt.alloc(), "places 1 2\n".as_bytes())?;
+    let bytes = Vec::from_slice(rt.alloc(), "places 0 1\n".as_bytes())?;
     let fails = Vec::from_slice(rt.alloc(), &[3])?;
     let mut source = MemSource::new(bytes, 5, fails);
     match read_script(rt.alloc(), &mut source) {

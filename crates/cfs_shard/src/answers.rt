@@ -1,9 +1,11 @@
 //! What the shard's table answers, and what it moves.
-ghost use Rattle.std.specs.Prelude.{◌≡◌, IfOk};
+ghost use Rattle.std.specs.Prelude.{◌≡◌, ◌<◌, IfOk, None};
 ghost use Rattle.std.specs.FinMap as map;
 ghost use Rattle.cfs_ids.specs.Maps.{row_key};
 ghost use Rattle.cfs_table.specs.Tables.{contents_of};
-ghost use Rattle.cfs_rules.specs.Places.{serve_shard, list_rows, read_row, inserted};
+ghost use Rattle.cfs_steps.specs.Phases.{maker};
+ghost use Rattle.cfs_rules.specs.Places.{serve_shard, list_rows, read_row, inserted, made_at, settled_dir, taken_back_dir};
+ghost use Rattle.cfs_shard.specs.Owners.{owns};
 
 use cfs_ids::{Call, Client, DirId, Name, NoMemory, Node, Stamp, Ts};
 use cfs_steps::{Answer, Ask, Move, Moved};
@@ -36,14 +38,22 @@ fn list(table: &Table, dir: DirId) -> Result<Answer, NoMemory>
     }
 }
 
+// The call that makes the node at the name.
+fn maker(dir: DirId, name: &Name, node: Node) -> Result<Call, NoMemory>
+    ensures { IfOk result (λ call. call ≡ maker dir name.now node) }
+{
+    let name = name.copy()?;
+    match node {
+        Node::File(_) => Ok(Call::Create { dir, name }),
+        Node::Dir(_) => Ok(Call::Mkdir { dir, name }),
+    }
+}
+
 // The move of an Insert.
 fn creation(client: Client, dir: DirId, name: &Name, node: Node, ts: Ts) -> Result<Moved, NoMemory>
-    ensures { IfOk result (λ moved. moved ≡ Moved.Move (record { client = client; call = Call.Create dir name.now; ts = ts; made = Some node })) }
+    ensures { IfOk result (λ moved. moved ≡ Moved.Move (record { client = client; call = maker dir name.now node; ts = ts; made = Some node })) }
 {
-    let call = Call::Create {
-        dir,
-        name: name.copy()?,
-    };
+    let call = maker(dir, name, node)?;
     Ok(Moved::Move(Move {
         client,
         call,
@@ -65,16 +75,10 @@ fn insert(
     ensures moved { IfOk result (λ told. (at : _) → told.moved ≡ (inserted (contents_of table.now) at client dir name.now node ts (map.get (contents_of table.now).recs dir.0) (map.get (contents_of table.now).rows (row_key dir name.now))).moved) }
 {
     if table.rec(dir).is_none() {
-        return Ok(Told {
-            answer: Answer::NoDir,
-            moved: None,
-        });
+        return Ok(unmoved(Answer::NoDir));
     }
     if table.row(dir, name).is_some() {
-        return Ok(Told {
-            answer: Answer::Exists,
-            moved: None,
-        });
+        return Ok(unmoved(Answer::Exists));
     }
     let moved = creation(client, dir, name, node, ts)?;
     Ok(Told {
@@ -83,20 +87,63 @@ fn insert(
     })
 }
 
+/// The directory that a step makes.
+pub fn made(at: Stamp) -> DirId
+    requires { at.number < 1099511627777 }
+    ensures { result.0 ≡ made_at at }
+{
+    DirId(64 * at.number + (at.place.0 % 64) as u64)
+}
+
+// The answer to Settle: whether the directory has an owner.
+fn settle(table: &Table, dir: DirId) -> Answer
+    ensures { result ≡ (settled_dir (contents_of table.now) dir (map.get (contents_of table.now).recs dir.0)).answer }
+{
+    match table.rec(dir) {
+        Some(rec) if rec.owner.is_some() => Answer::Done(None),
+        _ => Answer::None,
+    }
+}
+
+// The answer to TakeBack: whether the client owns the directory.
+fn take_back(table: &Table, client: Client, dir: DirId) -> Answer
+    ensures { result ≡ (taken_back_dir (contents_of table.now) client dir (map.get (contents_of table.now).recs dir.0)).answer }
+{
+    match table.rec(dir) {
+        Some(rec) if is_owner(rec.owner, client) => Answer::Done(None),
+        _ => Answer::None,
+    }
+}
+
+/// Whether the owner is the client.
+pub fn is_owner(owner: Option<Client>, client: Client) -> bool
+    ensures { result ≡ owns client owner }
+{
+    match owner {
+        Some(owner) => owner.0 == client.0,
+        None => false,
+    }
+}
+
+// What an answer gives that moves nothing.
+fn unmoved(answer: Answer) -> Told
+    ensures { result ≡ record { answer = answer; moved = None } }
+{
+    Told {
+        answer,
+        moved: None,
+    }
+}
+
 /// What the table gives for the ask at a step, beside the change.
 pub fn answer(table: &Table, at: Stamp, ask: &Ask) -> Result<Told, NoMemory>
+    requires { at.number < 1099511627777 }
     ensures answer { IfOk result (λ told. told.answer ≡ (serve_shard (contents_of table.now) at ask.now).answer) }
     ensures moved { IfOk result (λ told. told.moved ≡ (serve_shard (contents_of table.now) at ask.now).moved) }
 {
     match ask {
-        Ask::Read { dir, name } => Ok(Told {
-            answer: read(table, *dir, name),
-            moved: None,
-        }),
-        Ask::List { dir } => Ok(Told {
-            answer: list(table, *dir)?,
-            moved: None,
-        }),
+        Ask::Read { dir, name } => Ok(unmoved(read(table, *dir, name))),
+        Ask::List { dir } => Ok(unmoved(list(table, *dir)?)),
         Ask::Insert {
             client,
             dir,
@@ -104,9 +151,14 @@ pub fn answer(table: &Table, at: Stamp, ask: &Ask) -> Result<Told, NoMemory>
             node,
             ts,
         } => insert(table, *client, *dir, name, *node, *ts),
-        _ => Ok(Told {
-            answer: Answer::None,
-            moved: None,
-        }),
+        Ask::PutDir { .. } => Ok(unmoved(Answer::New(Node::Dir(made(at))))),
+        Ask::Settle {
+            node: Node::Dir(dir),
+        } => Ok(unmoved(settle(table, *dir))),
+        Ask::TakeBack {
+            client,
+            node: Node::Dir(dir),
+        } => Ok(unmoved(take_back(table, *client, *dir))),
+        _ => Ok(unmoved(Answer::None)),
     }
 }

@@ -7,5 +7,5 @@ mod shard;
 #[cfg(test)]
 mod tests;
 
-pub use cfs_table::{DirAttr, DirRec, Row};
+pub use cfs_table::{DirRec, Row};
 pub use shard::Shard;

@@ -1,5 +1,5 @@
 //! How a shard serves an ask.
-ghost use Rattle.std.specs.Prelude.{◌≡◌, ◌↔◌, ℕ, ◌<◌, ◌^◌, ◌+◌, ◌++◌, ◌∷◌, [], max, true, Some, IfOk, OnOk, OnErr, Err, length, slice_get};
+ghost use Rattle.std.specs.Prelude.{◌≡◌, ◌||◌, ◌↔◌, ℕ, ◌<◌, ◌≤◌, ◌^◌, ◌+◌, ◌++◌, ◌∷◌, [], max, true, Some, IfOk, IsOk, OnOk, OnErr, Err, length, slice_get};
 ghost use Rattle.std.specs.Option.{option_copied, option_map};
 ghost use Rattle.std.specs.Ordering.{nat_cmp};
 ghost use Rattle.std.specs.FinMap as map;
@@ -9,19 +9,23 @@ ghost use Rattle.cfs_ids.specs.Maps.{row_key};
 ghost use Rattle.cfs_steps.specs.declared.contents.DirRec.{DirRec};
 ghost use Rattle.cfs_maps.specs.Walks.{entries_after, first_of};
 ghost use Rattle.cfs_table.specs.Tables.{contents_of as table_of};
-ghost use Rattle.cfs_rules.specs.Places.{serve_shard, opening_shard, entry_by, number_after, is_full, names_of};
-ghost use Rattle.cfs_rules.specs.Facts.{CountsHold};
-ghost use Rattle.cfs_rules.specs.Trees.{is_named};
+ghost use Rattle.cfs_rules.specs.Places.{serve_shard, opening_part, entry_by, number_after, is_full, names_of};
+ghost use Rattle.cfs_rules.specs.Facts.{CountsHold, keeps_recs};
+ghost use Rattle.std.specs.List.{list_any};
+ghost use Rattle.cfs_ids.specs.Namespace.{is_node};
+ghost use Rattle.cfs_maps.specs.NodeSets.{has_node};
+ghost use Rattle.cfs_rules.specs.Trees.{is_named, is_placed};
 ghost use Rattle.std.proofs.Props.{props};
 ghost use Rattle.cfs_shard.specs.Bounds.{CountsWithin};
 
 use crate::answers::answer;
 use crate::changes::change;
 use cfs_ids::{
-    Actor, DirId, FileId, Name, NoMemory, PlaceNo, RowList, Stamp, Ts, later, number_of,
+    Actor, DirAttr, DirId, FileId, Name, NoMemory, PlaceNo, RowList, Stamp, Ts, later, number_of,
 };
+use cfs_maps::NodeSet;
 use cfs_steps::{Ask, Entry, LOG_LIMIT, Log, NUMBER_LIMIT, ServeFault};
-use cfs_table::{DirAttr, DirRec, Row, Table};
+use cfs_table::{DirRec, Row, Table};
 use std::alloc::Global;
 use std::collections::btree_map::Iter;
 
@@ -34,19 +38,29 @@ pub struct Shard {
     last: u64,
     ghost small: { index < 64 },
     ghost counts: { CountsWithin (length log) (table_of table) } by { Prim.hlevel props },
+    ghost few: { map.len (table_of table).recs ≤ length log + 1 },
+    ghost short: { length log ≤ 1048576 },
 }
 
 // The table with which the shard with this index opens: shard 0 has the root's record.
-fn opening_table(alloc: Global) -> Result<Table, NoMemory>
-    ensures { IfOk result (λ table. table_of table ≡ opening_shard) }
+fn opening_table(alloc: Global, index: u32) -> Result<Table, NoMemory>
+    ensures { IfOk result (λ table. table_of table ≡ opening_part index) }
 {
     let mut table = Table::new(alloc);
+    if index != 0 {
+        return Ok(table);
+    }
     let attr = DirAttr {
         children: 0,
         subdirs: 0,
         time: 0,
     };
-    match table.set_rec(DirId(0), DirRec { attr }) {
+    let rec = DirRec {
+        attr,
+        back: None,
+        owner: None,
+    };
+    match table.set_rec(DirId(0), rec) {
         Ok(_) => Ok(table),
         Err(_) => Err(NoMemory),
     }
@@ -55,15 +69,15 @@ fn opening_table(alloc: Global) -> Result<Table, NoMemory>
 impl Shard {
     ghost use Rattle.cfs_shard.specs.Shards.{contents_of, log_of, last_of, index_of, shown};
 
-    /// Shard 0, which has the root's record.
+    /// The shard with this index, below 64. Shard 0 has the root's record, and the others have none.
     pub fn new(alloc: Global, index: u32) -> Result<Shard, NoMemory>
-        requires { index ≡ 0 }
-        ensures contents { IfOk result (λ shard. contents_of shard ≡ opening_shard) }
+        requires { index < 64 }
+        ensures contents { IfOk result (λ shard. contents_of shard ≡ opening_part index) }
         ensures log { IfOk result (λ shard. log_of shard ≡ []) }
         ensures last { IfOk result (λ shard. last_of shard ≡ 0) }
         ensures index { IfOk result (λ shard. index_of shard ≡ index) }
     {
-        let table = opening_table(alloc)?;
+        let table = opening_table(alloc, index)?;
         Ok(Shard {
             index,
             table,
@@ -93,9 +107,10 @@ impl Shard {
         self.log.get(i)
     }
 
-    /// The nodes of the directory, by rising name.
+    /// The nodes of the directory, by rising name. The Err is want of memory, and comes only where it has rows.
     pub fn rows_of(&self, dir: DirId) -> Result<RowList, NoMemory>
-        ensures { IfOk result (λ list. list ≡ map.entries (names_of (contents_of self.now) dir.0)) }
+        ensures rows { IfOk result (λ list. list ≡ map.entries (names_of (contents_of self.now) dir.0)) }
+        ensures sure { map.entries (names_of (contents_of self.now) dir.0) ≡ [] → IsOk result }
     {
         self.table.rows_of(dir)
     }
@@ -104,7 +119,7 @@ impl Shard {
     pub fn recs(&self) -> Iter<'_, u64, DirRec>
         ensures rest { result ≡ map.entries (contents_of self.now).recs }
         ensures runs { ShowsInOrder (deref_pair {K = ℕ} {X = DirRec}) }
-        ensures fits { map.len (contents_of self.now).recs < 2 ^ 63 }
+        ensures fits { map.len (contents_of self.now).recs ≤ 1048577 }
     {
         self.table.recs()
     }
@@ -121,6 +136,20 @@ impl Shard {
         ensures { result ≡ is_named (contents_of self.now) file.0 }
     {
         self.table.names_file(file)
+    }
+
+    /// Whether some row names the directory.
+    pub fn names_dir(&self, dir: DirId) -> bool
+        ensures { result ≡ is_placed (contents_of self.now) dir.0 }
+    {
+        self.table.names_dir(dir)
+    }
+
+    /// Adds the nodes that the rows name to a set. The Err is want of memory.
+    pub fn add_named(&self, nodes: &mut NodeSet) -> Result<(), NoMemory>
+        ensures { OnOk result ((x : _) → has_node nodes.new x ≡ (has_node nodes.old x || list_any (λ e. is_node x e.1.node) (map.entries (contents_of self.now).rows))) }
+    {
+        self.table.add_named(nodes)
     }
 
     // Whether the shard serves nothing more.
@@ -140,7 +169,7 @@ impl Shard {
         ensures full { (result ≡ Err ServeFault.LogFull) ↔ (is_full (length (log_of self.old)) last (last_of self.old) ≡ true) }
         ensures err { OnErr result (shown self.new ≡ shown self.old) }
         ensures index { index_of self.new ≡ index_of self.old }
-        ensures counts { CountsHold (contents_of self.old) → CountsHold (contents_of self.new) }
+        ensures counts { keeps_recs ask.now ≡ true → CountsHold (contents_of self.old) → CountsHold (contents_of self.new) }
     {
         if self.is_full(last) {
             return Err(ServeFault::LogFull);

@@ -1,15 +1,37 @@
-//! A row, set and read, on values typed by hand.
+//! Rows and directories, set and read, on values typed by hand.
 use crate::Shard;
-use cfs_ids::{Actor, Client, DirId, FileId, Name, Node, PlaceNo, Stamp};
-use cfs_steps::{Answer, Ask};
+use cfs_ids::{Actor, Call, Client, DirAttr, DirId, FileId, Name, Node, PlaceNo, Stamp};
+use cfs_steps::{Answer, Ask, Moved};
+use std::alloc::Global;
 use std::test::Fail;
+
+const ROOT: DirId = DirId(0);
+
+const DIR: DirId = DirId(65);
+
+const CLIENT: Client = Client(1);
+
+const OTHER: Client = Client(2);
+
+// A shard 1 with directory 65, which the client put as its first step.
+fn with_a_directory(alloc: Global) -> Result<Shard, Fail> {
+    let mut shard = Shard::new(alloc, 1)?;
+    let put = Ask::PutDir {
+        client: CLIENT,
+        at: PlaceNo(1),
+        dir: ROOT,
+        name: Name::read(alloc, b"d")?,
+    };
+    shard.serve(Actor::Client(CLIENT), 0, &put)?;
+    Ok(shard)
+}
 
 #[test]
 fn serves(rt: HostRuntime) -> Result<(), Fail> {
     let alloc = rt.alloc();
-    let client = Client(1);
+    let client = CLIENT;
     let actor = Actor::Client(client);
-    let dir = DirId(0);
+    let dir = ROOT;
     let name = Name::read(alloc, b"a")?;
     let mut shard = Shard::new(alloc, 0)?;
     let insert = Ask::Insert {
@@ -46,20 +68,124 @@ fn serves(rt: HostRuntime) -> Result<(), Fail> {
 
 #[test]
 fn shows(rt: HostRuntime) -> Result<(), Fail> {
-    let actor = Actor::Client(Client(1));
+    let actor = Actor::Client(CLIENT);
     let mut shard = Shard::new(rt.alloc(), 0)?;
     let list = shard.serve(actor, 8, &Ask::List { dir: DirId(7) })?;
     assert!(rt; matches!(&list.answer, Answer::NoDir));
     assert_eq!(rt; shard.count(), 1);
     assert_eq!(rt; shard.last(), 9);
     assert!(rt; shard.entry(0).is_some());
-    assert_eq!(rt; shard.rows_of(DirId(0))?.len(), 0);
+    assert_eq!(rt; shard.rows_of(ROOT)?.len(), 0);
     assert!(rt; !shard.names_file(FileId(64)));
     let Some((dir, rec)) = shard.next_rec(None) else {
         assert!(rt; false, "the root's record");
         return Ok(());
     };
-    assert_eq!(rt; (dir, rec.attr.children), (DirId(0), 0));
-    assert!(rt; shard.next_rec(Some(DirId(0))).is_none());
+    assert_eq!(rt; (dir, rec.attr.children), (ROOT, 0));
+    assert!(rt; shard.next_rec(Some(ROOT)).is_none());
+    Ok(())
+}
+
+#[test]
+fn shard_1_puts_directory_65(rt: HostRuntime) -> Result<(), Fail> {
+    let alloc = rt.alloc();
+    let shard = with_a_directory(alloc)?;
+    let Some(put) = shard.entry(0) else {
+        assert!(rt; false, "the step of the put");
+        return Ok(());
+    };
+    assert_eq!(rt; put.number, 1);
+    assert!(rt; put.moved.is_none());
+    assert!(rt; matches!(&put.answer, Answer::New(Node::Dir(DirId(65)))));
+    let Some((dir, rec)) = shard.next_rec(None) else {
+        assert!(rt; false, "the record of the directory");
+        return Ok(());
+    };
+    let attr = DirAttr {
+        children: 0,
+        subdirs: 0,
+        time: 1,
+    };
+    assert_eq!(rt; (dir, rec.attr, rec.owner), (DIR, attr, Some(CLIENT)));
+    assert!(rt; shard.next_rec(Some(DIR)).is_none());
+    assert!(rt; !shard.names_dir(DIR));
+    Ok(())
+}
+
+#[test]
+fn the_root_counts_a_directory_of_shard_1(rt: HostRuntime) -> Result<(), Fail> {
+    let alloc = rt.alloc();
+    let mut shard = Shard::new(alloc, 0)?;
+    let insert = Ask::Insert {
+        client: CLIENT,
+        dir: ROOT,
+        name: Name::read(alloc, b"d")?,
+        node: Node::Dir(DIR),
+        ts: 1,
+    };
+    let set = shard.serve(Actor::Client(CLIENT), 1, &insert)?;
+    assert_eq!(rt; set.number, 2);
+    let Some(Moved::Move(made)) = &set.moved else {
+        assert!(rt; false, "{set:?}");
+        return Ok(());
+    };
+    assert!(rt; matches!(&made.call, Call::Mkdir { .. }));
+    assert_eq!(rt; (made.ts, made.made), (1, Some(Node::Dir(DIR))));
+    let Some((dir, rec)) = shard.next_rec(None) else {
+        assert!(rt; false, "the root's record");
+        return Ok(());
+    };
+    let attr = DirAttr {
+        children: 1,
+        subdirs: 1,
+        time: 1,
+    };
+    assert_eq!(rt; (dir, rec.attr), (ROOT, attr));
+    assert!(rt; shard.names_dir(DIR));
+    assert!(rt; shard.next_rec(Some(ROOT)).is_none());
+    Ok(())
+}
+
+#[test]
+fn its_owner_alone_takes_a_directory_back(rt: HostRuntime) -> Result<(), Fail> {
+    let mut shard = with_a_directory(rt.alloc())?;
+    let node = Node::Dir(DIR);
+    let others = Ask::TakeBack {
+        client: OTHER,
+        node,
+    };
+    let kept = shard.serve(Actor::Client(OTHER), 0, &others)?;
+    assert!(rt; matches!(&kept.answer, Answer::None));
+    assert!(rt; shard.next_rec(None).is_some());
+    let own = Ask::TakeBack {
+        client: CLIENT,
+        node,
+    };
+    let taken = shard.serve(Actor::Client(CLIENT), 1, &own)?;
+    assert!(rt; matches!(&taken.answer, Answer::Done(None)));
+    assert!(rt; shard.next_rec(None).is_none());
+    Ok(())
+}
+
+#[test]
+fn a_settled_directory_stays(rt: HostRuntime) -> Result<(), Fail> {
+    let mut shard = with_a_directory(rt.alloc())?;
+    let node = Node::Dir(DIR);
+    let settle = Ask::Settle { node };
+    let settled = shard.serve(Actor::Client(CLIENT), 1, &settle)?;
+    assert!(rt; matches!(&settled.answer, Answer::Done(None)));
+    let again = shard.serve(Actor::Client(OTHER), 0, &settle)?;
+    assert!(rt; matches!(&again.answer, Answer::None));
+    let own = Ask::TakeBack {
+        client: CLIENT,
+        node,
+    };
+    let kept = shard.serve(Actor::Client(CLIENT), 2, &own)?;
+    assert!(rt; matches!(&kept.answer, Answer::None));
+    let Some((dir, rec)) = shard.next_rec(None) else {
+        assert!(rt; false, "the record of the directory");
+        return Ok(());
+    };
+    assert_eq!(rt; (dir, rec.owner), (DIR, None));
     Ok(())
 }

@@ -31,6 +31,13 @@ pub enum Ask {
         at: PlaceNo,
         home: DirId,
     },
+    /// A new directory in the shard `at`, which the client owns and means to name `name` in `dir`.
+    PutDir {
+        client: Client,
+        at: PlaceNo,
+        dir: DirId,
+        name: Name,
+    },
     /// Ends the ownership of a node's record.
     Settle {
         node: Node,
@@ -70,7 +77,7 @@ impl Ask {
     {
         match self {
             Ask::Read { dir, .. } | Ask::List { dir } | Ask::Insert { dir, .. } => shard_of(*dir),
-            Ask::Put { at, .. } => *at,
+            Ask::Put { at, .. } | Ask::PutDir { at, .. } => *at,
             Ask::Settle { node } | Ask::TakeBack { node, .. } => home_of(*node),
             Ask::End { .. } => PlaceNo(129),
         }
@@ -115,6 +122,20 @@ impl Clone for Ask {
                 at: *at,
                 home: *home,
             }),
+            Ask::PutDir {
+                client,
+                at,
+                dir,
+                name,
+            } => {
+                let name = name.clone()?;
+                Ok(Ask::PutDir {
+                    client: *client,
+                    at: *at,
+                    dir: *dir,
+                    name,
+                })
+            }
             Ask::Settle { node } => Ok(Ask::Settle { node: *node }),
             Ask::TakeBack { client, node } => Ok(Ask::TakeBack {
                 client: *client,

@@ -1,5 +1,7 @@
 //! What a place keeps of a row, a directory and a file.
-use cfs_ids::{Client, DirId, Node, Stamp, Ts};
+ghost use Rattle.std.specs.Prelude.{◌≡◌, IfOk};
+
+use cfs_ids::{Client, DirAttr, DirId, Name, NoMemory, Node, Stamp, Ts};
 
 /// A row: the node that it names, and the step that set it.
 #[derive(Clone, Copy, Debug, PartialEq, Eq)]
@@ -8,18 +10,22 @@ pub struct Row {
     pub stamp: Stamp,
 }
 
-/// A directory's counts of rows and of rows that name a directory, and its time.
-#[derive(Clone, Copy, Debug, PartialEq, Eq)]
-pub struct DirAttr {
-    pub children: u64,
-    pub subdirs: u64,
-    pub time: Ts,
-}
-
-/// The record of a directory.
-#[derive(Clone, Copy, Debug, PartialEq, Eq)]
+/// The record of a directory: where it is named, which is nowhere for the root alone, and the client that put it and
+/// hasn't settled it.
+#[derive(Clone, Debug, Drop)]
 pub struct DirRec {
     pub attr: DirAttr,
+    pub back: Option<(DirId, Name)>,
+    pub owner: Option<Client>,
+}
+
+impl DirRec {
+    /// A copy.
+    pub fn copy(&self) -> Result<DirRec, NoMemory>
+        ensures { IfOk result (λ copy. copy ≡ self.now) }
+    {
+        Ok(self.clone()?)
+    }
 }
 
 /// The record of a file: the owner is the client that put it and hasn't settled it, `home` the directory of its

@@ -17,7 +17,7 @@ mod tests;
 pub use answer::Answer;
 pub use ask::Ask;
 pub use call_done::{CallDone, CallList, ClientCalls};
-pub use contents::{DirAttr, DirRec, FileRec, Row};
+pub use contents::{DirRec, FileRec, Row};
 pub use entry::Entry;
 pub use line::{HistoryItem, Line, Outcome};
 pub use log::{LOG_LIMIT, Log, NUMBER_LIMIT};

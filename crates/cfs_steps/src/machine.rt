@@ -15,7 +15,7 @@ pub trait Machine {
     // The client that makes the call.
     ghost client: { Self → Client };
 
-    // The index of the store of the client's next put.
+    // The index of the shard or store of the client's next put.
     ghost put_index: { Self → ℕ };
 
     // Where the call is.

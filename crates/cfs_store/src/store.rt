@@ -1,5 +1,5 @@
 //! How a store serves an ask.
-ghost use Rattle.std.specs.Prelude.{◌≡◌, ◌↔◌, ℕ, ◌<◌, ◌^◌, ◌+◌, ◌++◌, ◌∷◌, [], max, true, IfOk, IsOk, OnOk, OnErr, Err, length, slice_get};
+ghost use Rattle.std.specs.Prelude.{◌≡◌, ◌↔◌, ℕ, ◌<◌, ◌≤◌, ◌^◌, ◌+◌, ◌++◌, ◌∷◌, [], max, true, IfOk, IsOk, OnOk, OnErr, Err, length, slice_get};
 ghost use Rattle.std.specs.Option.{option_copied, option_map};
 ghost use Rattle.std.specs.Ordering.{nat_cmp};
 ghost use Rattle.std.specs.FinMap as map;
@@ -24,6 +24,8 @@ pub struct Store {
     log: Log,
     last: u64,
     ghost small: { index < 64 },
+    ghost few: { map.len files ≤ length log },
+    ghost short: { length log ≤ 1048576 },
 }
 
 impl Store {
@@ -71,7 +73,7 @@ impl Store {
     pub fn files(&self) -> Iter<'_, u64, FileRec>
         ensures rest { result ≡ map.entries (contents_of self.now) }
         ensures runs { ShowsInOrder (deref_pair {K = ℕ} {X = FileRec}) }
-        ensures fits { map.len (contents_of self.now) < 2 ^ 63 }
+        ensures fits { map.len (contents_of self.now) ≤ 1048576 }
     {
         self.files.iter()
     }
@@ -96,8 +98,8 @@ impl Store {
     /// Serves an ask of the actor, whose last number is `last`, by the store's table, and logs the step. LogFull comes
     /// exactly where the log has 1,048,576 entries, or a last number is 2^40 or more. On Err the store is as before.
     pub fn serve(&mut self, actor: Actor, last: Ts, ask: &Ask) -> Result<Entry, ServeFault>
-        ensures entry { let number = number_after last (last_of self.old) in IfOk result (λ entry. entry ≡ entry_by actor number ask.now (serve_store (index_of self.old) (contents_of self.old) (record { number = number; place = record { 0 = 64 + index_of self.old } }) ask.now)) }
-        ensures contents { let number = number_after last (last_of self.old) in OnOk result (contents_of self.new ≡ (serve_store (index_of self.old) (contents_of self.old) (record { number = number; place = record { 0 = 64 + index_of self.old } }) ask.now).contents) }
+        ensures entry { let number = number_after last (last_of self.old) in IfOk result (λ entry. entry ≡ entry_by actor number ask.now (serve_store (contents_of self.old) (record { number = number; place = record { 0 = 64 + index_of self.old } }) ask.now)) }
+        ensures contents { let number = number_after last (last_of self.old) in OnOk result (contents_of self.new ≡ (serve_store (contents_of self.old) (record { number = number; place = record { 0 = 64 + index_of self.old } }) ask.now).contents) }
         ensures log { IfOk result (λ entry. log_of self.new ≡ log_of self.old ++ entry ∷ []) }
         ensures last { OnOk result (last_of self.new ≡ number_after last (last_of self.old)) }
         ensures full { (result ≡ Err ServeFault.LogFull) ↔ (is_full (length (log_of self.old)) last (last_of self.old) ≡ true) }
@@ -115,11 +117,11 @@ impl Store {
             actor,
             number: at.number,
             ask: ask.copy()?,
-            answer: answer(&self.files, self.index, at, ask),
+            answer: answer(&self.files, at, ask),
             moved: None,
         };
         self.log.push(entry.copy()?)?;
-        match change(&mut self.files, self.index, at, ask) {
+        match change(&mut self.files, at, ask) {
             Ok(()) => {
                 self.last = at.number;
                 Ok(entry)

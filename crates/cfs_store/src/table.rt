@@ -1,19 +1,18 @@
 //! The table of the store: the answer to an ask, and its change.
 ghost use Rattle.std.specs.Prelude.{◌≡◌, ◌<◌, OnOk, OnErr};
 ghost use Rattle.std.specs.FinMap as map;
-ghost use Rattle.cfs_rules.specs.Places.{serve_store, put_file, file_of, settled, taken_back};
+ghost use Rattle.cfs_rules.specs.Places.{serve_store, put_file, made_at, settled, taken_back};
 
 use cfs_ids::{Client, DirId, FileId, NoMemory, Node, Stamp};
 use cfs_maps::NumberMap;
 use cfs_steps::{Answer, Ask, FileRec};
 
-// The file that the step with this number makes.
-fn new_file(index: u32, number: u64) -> FileId
-    requires small { index < 64 }
-    requires number { number < 1099511627777 }
-    ensures { result ≡ file_of index number }
+// The file that the step with this stamp makes.
+fn new_file(at: Stamp) -> FileId
+    requires { at.number < 1099511627777 }
+    ensures { result.0 ≡ made_at at }
 {
-    FileId(64 * number + index as u64)
+    FileId(64 * at.number + (at.place.0 % 64) as u64)
 }
 
 // The answer to Settle: whether the file has an owner.
@@ -42,13 +41,12 @@ fn take_back_answer(files: &NumberMap<FileRec>, client: Client, file: FileId) ->
 }
 
 /// What the table answers.
-pub fn answer(files: &NumberMap<FileRec>, index: u32, at: Stamp, ask: &Ask) -> Answer
-    requires small { index < 64 }
-    requires number { at.number < 1099511627777 }
-    ensures { result ≡ (serve_store index files.now at ask.now).answer }
+pub fn answer(files: &NumberMap<FileRec>, at: Stamp, ask: &Ask) -> Answer
+    requires { at.number < 1099511627777 }
+    ensures { result ≡ (serve_store files.now at ask.now).answer }
 {
     match ask {
-        Ask::Put { .. } => Answer::New(Node::File(new_file(index, at.number))),
+        Ask::Put { .. } => Answer::New(Node::File(new_file(at))),
         Ask::Settle {
             node: Node::File(file),
         } => settle_answer(files, *file),
@@ -63,21 +61,21 @@ pub fn answer(files: &NumberMap<FileRec>, index: u32, at: Stamp, ask: &Ask) -> A
 // Puts a new file, which the client owns.
 fn put(
     files: &mut NumberMap<FileRec>,
-    file: FileId,
+    at: Stamp,
     client: Client,
     home: DirId,
-    number: u64,
 ) -> Result<(), NoMemory>
-    ensures ok { OnOk result (files.new ≡ (put_file files.old file client home number).contents) }
+    requires { at.number < 1099511627777 }
+    ensures ok { OnOk result (files.new ≡ (put_file files.old at client home).contents) }
     ensures err { OnErr result (files.new ≡ files.old) }
 {
     let rec = FileRec {
         size: 0,
-        time: number,
+        time: at.number,
         owner: Some(client),
         home,
     };
-    match files.set(file.0, rec) {
+    match files.set(new_file(at).0, rec) {
         Ok(_) => Ok(()),
         Err(_) => Err(NoMemory),
     }
@@ -111,21 +109,13 @@ fn take_back(files: &mut NumberMap<FileRec>, client: Client, file: FileId)
 }
 
 /// Makes the table's change.
-pub fn change(
-    files: &mut NumberMap<FileRec>,
-    index: u32,
-    at: Stamp,
-    ask: &Ask,
-) -> Result<(), NoMemory>
-    requires small { index < 64 }
-    requires number { at.number < 1099511627777 }
-    ensures ok { OnOk result (files.new ≡ (serve_store index files.old at ask.now).contents) }
+pub fn change(files: &mut NumberMap<FileRec>, at: Stamp, ask: &Ask) -> Result<(), NoMemory>
+    requires { at.number < 1099511627777 }
+    ensures ok { OnOk result (files.new ≡ (serve_store files.old at ask.now).contents) }
     ensures err { OnErr result (files.new ≡ files.old) }
 {
     match ask {
-        Ask::Put { client, home, .. } => {
-            put(files, new_file(index, at.number), *client, *home, at.number)
-        }
+        Ask::Put { client, home, .. } => put(files, at, *client, *home),
         Ask::Settle {
             node: Node::File(file),
         } => {

@@ -1,6 +1,6 @@
 //! Each ask of a store once, on values typed by hand.
 use crate::{FileRec, Store};
-use cfs_ids::{Actor, Client, DirId, FileId, Node, PlaceNo};
+use cfs_ids::{Actor, Client, DirId, FileId, Name, Node, PlaceNo};
 use cfs_steps::{Answer, Ask};
 use std::test::Fail;
 
@@ -72,6 +72,22 @@ fn takes_a_file_back_for_its_owner(rt: HostRuntime) -> Result<(), Fail> {
             "{client:?}"
         );
     }
+    assert!(rt; store.next_file(None).is_none());
+    Ok(())
+}
+
+#[test]
+fn puts_no_directory(rt: HostRuntime) -> Result<(), Fail> {
+    let client = Client(1);
+    let ask = Ask::PutDir {
+        client,
+        at: PlaceNo(64),
+        dir: DirId(0),
+        name: Name::read(rt.alloc(), b"d")?,
+    };
+    let mut store = Store::new(rt.alloc(), 0)?;
+    let entry = store.serve(Actor::Client(client), 0, &ask)?;
+    assert!(rt; matches!(&entry.answer, Answer::None));
     assert!(rt; store.next_file(None).is_none());
     Ok(())
 }

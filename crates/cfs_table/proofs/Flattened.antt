@@ -1,34 +1,17 @@
 -- What the one map of all rows tells of the rows of each directory.
-use Rattle.std.proofs.Common.{◌≡◌, ◌≢◌, ℕ, ◌+◌, List, [], ◌∷◌, ◌++◌, Bool, true, false, cond, refl, sym, ◌∙◌, ap, subst, arith}
+use Rattle.std.proofs.Common.{◌≡◌, ◌≢◌, ℕ, List, [], ◌∷◌, ◌++◌, Bool, true, false, cond, refl, sym, ◌∙◌, ap, subst, arith}
 use Rattle.std.specs.Prelude.{T, ◌&&◌, ◌==◌, Option, Some, None}
 use Rattle.std.proofs.lemmas.Bool.Decides.{nat_tests}
 use Rattle.std.specs.declared.cmp.Ordering.{Ordering}
 use Rattle.std.specs.declared.cmp.Ordering.TheVariants.{Less, Equal, Greater}
 use Rattle.std.specs.Ordering.{nat_cmp, eq_by_cmp, is_eq, is_lt}
 use Rattle.std.specs.Cmp.Lexicographic.{slice_cmp, nat_list_cmp_total}
-use Rattle.std.specs.FinMap.{get, insert, entries, entries_sorted, find, is_sorted, from_entries, gets, get-entries, get-from_entries, get-insert, same_map, nat_cmp-IsAntisymmetric, slice_cmp-IsAntisymmetric}
+use Rattle.std.specs.FinMap.{get, insert, remove, len, empty_of_len, get-empty, entries, entries_sorted, find, is_sorted, gets, get-entries, get-from_entries, get-insert, same_map, nat_cmp-IsAntisymmetric, slice_cmp-IsAntisymmetric}
 use Rattle.std.specs.FinMap.Entries.{below_all}
 use Rattle.cfs_ids.specs.Maps.{Names, Numbers}
-use Rattle.cfs_maps.specs.Nested.{names_of, with_name}
+use Rattle.cfs_ids.proofs.Entries.{or_else, find-append, find-above}
+use Rattle.cfs_maps.specs.Nested.{names_of, with_name, with_names, without_name}
 use Rattle.cfs_table.specs.Flat.{keyed, flattened, flat, found_in}
-
-abbrev pub or_else : {X : Type 0} → Option X → Option X → Option X
-or_else (Some x) o = Some x
-or_else None o = o
-
-pub find-append : {K X : Type 0} (R : K → K → Ordering) (q : K) (xs ys : List (K × X)) → find R q (xs ++ ys) ≡ or_else (find R q xs) (find R q ys)
-find-append R q [] ys = refl
-find-append R q (x ∷ xs) ys = elim (eq_by_cmp R q x.0) as (λ b. cond b (Some x.1) (find R q (xs ++ ys)) ≡ or_else (cond b (Some x.1) (find R q xs)) (find R q ys)) [ true ↦ refl | false ↦ find-append R q xs ys ]
-
--- a key is not found among greater ones
-pub find-above : {K X : Type 0} (R : K → K → Ordering) (k : K) (es : List (K × X)) → T (below_all R k es) → find R k es ≡ None
-find-above R k [] h = refl
-find-above R k (e ∷ es) h = by_test (R k e.0) h (find-above R k es)
-  where
-    by_test : (r : Ordering) → T (is_lt r && below_all R k es) → (T (below_all R k es) → find R k es ≡ None) → cond (is_eq r) (Some e.1) (find R k es) ≡ None
-    by_test Less h rest = rest h
-    by_test Equal h rest = absurd h
-    by_test Greater h rest = absurd h
 
 module _ {X : Type 0} where
   pub find-keyed_same : (d : ℕ) (n : List ℕ) (rs : List (List ℕ × X)) → find (slice_cmp nat_cmp) (d ∷ n) (keyed d rs) ≡ find (slice_cmp nat_cmp) n rs
@@ -106,4 +89,39 @@ module _ {X : Type 0} where
       at [] = let a = get-flat_none (with_name m d name v) in let b = get-flat_none m in a ∙ grind (arith, gets)
       at (e ∷ n) = get-flat (with_name m d name v) e n ∙ by_test e n (e == d) refl
 
-pub ruleset flattening = (get-flat, get-names_of, flat-with_name)
+  get-with_names_here : (m : Numbers (Names X)) (d : ℕ) (names : Names X) (n : List ℕ) → found_in (get (with_names m d names) d) n ≡ get names n
+  get-with_names_here m d names n = by_test (len names == 0) refl
+    where
+      by_test : (b : Bool) → (len names == 0) ≡ b → found_in (get (cond b (remove m d) (insert m d names)) d) n ≡ get names n
+      by_test true t =
+          let none : len names ≡ 0 = grind (arith, nat_tests) in
+          let gone : get (remove m d) d ≡ None = grind (arith, nat_tests, gets) in
+          rw (gone, empty_of_len names none) (sym (get-empty (slice_cmp nat_cmp) n))
+      by_test false t = let there : get (insert m d names) d ≡ Some names = grind (arith, nat_tests, gets) in rw there refl
+
+  get-with_names_other : (m : Numbers (Names X)) (d e : ℕ) (names : Names X) → e ≢ d → get (with_names m d names) e ≡ get m e
+  get-with_names_other m d e names differ = by_test (len names == 0)
+    where
+      by_test : (b : Bool) → get (cond b (remove m d) (insert m d names)) e ≡ get m e
+      by_test true = grind (arith, nat_tests, gets)
+      by_test false = grind (arith, nat_tests, gets)
+
+  -- a row cut from a directory is cut from the one map
+  pub flat-without_name : (m : Numbers (Names X)) (d : ℕ) (name : List ℕ) → flat (without_name m d name) ≡ remove (flat m) (d ∷ name)
+  flat-without_name m d name = same_map nat_list_cmp_total (slice_cmp-IsAntisymmetric nat_cmp-IsAntisymmetric) _ _ at
+    where
+      by_test : (e : ℕ) (n : List ℕ) (b : Bool) → (e == d) ≡ b → found_in (get (without_name m d name) e) n ≡ get (remove (flat m) (d ∷ name)) (e ∷ n)
+      by_test e n true t =
+          let same : e ≡ d = grind (arith, nat_tests) in
+          let old = get-names_of m d n in
+          rw same (get-with_names_here m d (remove (names_of (get m d)) name) n ∙ grind (arith, nat_tests, gets))
+      by_test e n false t =
+          let differ : e ≢ d = grind (arith, nat_tests) in
+          let old = get-flat m e n in
+          ap (λ o. found_in o n) (get-with_names_other m d e (remove (names_of (get m d)) name) differ) ∙ sym old ∙ grind (arith, nat_tests, gets)
+
+      at : (q : List ℕ) → get (flat (without_name m d name)) q ≡ get (remove (flat m) (d ∷ name)) q
+      at [] = let a = get-flat_none (without_name m d name) in let b = get-flat_none m in a ∙ grind (arith, gets)
+      at (e ∷ n) = get-flat (without_name m d name) e n ∙ by_test e n (e == d) refl
+
+pub ruleset flattening = (get-flat, get-names_of, flat-with_name, flat-without_name)

@@ -1,3 +1,4 @@
 pub mod Above
 pub mod Flattened
 pub mod Listed
+pub mod Walked

@@ -10,10 +10,11 @@ use Rattle.std.specs.Cmp.Lexicographic.{slice_cmp, nat_list_cmp_total}
 use Rattle.std.specs.FinMap.{get, empty, entries, entries_sorted, find, is_sorted, from_entries, from_sorted, entries-from_sorted, get-from_sorted, get-entries, get-from_entries, get-empty, len-entries, len-empty, entries-insert, same_map, nat_cmp-IsAntisymmetric, slice_cmp-IsAntisymmetric}
 use Rattle.std.specs.FinMap.Entries.{below_all}
 use Rattle.cfs_ids.specs.Maps.{Names, Numbers, within}
-use Rattle.cfs_ids.proofs.MapLemmas.{list_any-put, find-within}
+use Rattle.cfs_ids.proofs.MapLemmas.{find-within}
+use Rattle.cfs_ids.proofs.Entries.{or_else, find-append, find-above, Distinct, list_any-from_entries, entries-empty}
 use Rattle.cfs_maps.specs.Nested.{names_of}
 use Rattle.cfs_table.specs.Flat.{keyed, flattened, flat, found_in}
-use Rattle.cfs_table.proofs.Flattened.{or_else, find-append, find-above, find-keyed_same, find-flattened_absent, get-flat}
+use Rattle.cfs_table.proofs.Flattened.{find-keyed_same, find-flattened_absent, get-flat}
 
 -- ---- values changed one by one
 module _ {K X Y : Type 0} (R : K → K → Ordering) (f : X → Y) where
@@ -71,26 +72,7 @@ entries-names {X} {Y} f m d = ap entries alike ∙ entries-from_sorted (slice_cm
         ∙ sym (find-changed (slice_cmp nat_cmp) f q (entries (names_of (get m d))))
         ∙ sym (get-from_sorted (slice_cmp nat_cmp) (map (λ e. (e.0, f e.1)) (entries (names_of (get m d)))) q sorted))
 
-no_entries : {A : Type 0} (xs : List A) → length xs ≡ 0 → xs ≡ []
-no_entries [] e = refl
-no_entries (x ∷ xs) e = cc
-
-pub entries-empty : {K X : Type 0} (R : K → K → Ordering) → entries (empty {X = X} {R = R}) ≡ []
-entries-empty {K} {X} R = no_entries _ (sym (len-entries (empty {X = X} {R = R})) ∙ len-empty R X)
-
 -- ---- no key stands twice
-module _ {K X : Type 0} (R : K → K → Ordering) where
-  abbrev Distinct : List (K × X) → Type 0
-  Distinct [] = Unit {0}
-  Distinct (e ∷ es) = (find R e.0 es ≡ None) × Distinct es
-
-  list_any-from_entries : IsTotalOrder R → (p : K × X → Bool) (es : List (K × X)) → Distinct es → list_any p (entries (from_entries {R = R} es)) ≡ list_any p es
-  list_any-from_entries o p [] h = ap (list_any p) (entries-empty R)
-  list_any-from_entries o p (e ∷ es) h =
-      ap (list_any p) (entries-insert o (from_entries es) e.0 e.1)
-      ∙ list_any-put R p e.0 e.1 (entries (from_entries es)) (sym (get-entries (from_entries es) e.0) ∙ get-from_entries o es e.0 ∙ h.0)
-      ∙ ap (λ b. p e || b) (list_any-from_entries o p es h.1)
-
 any_or : (a b c : Bool) → ((a || b) || c) ≡ (a || (b || c))
 any_or true b c = refl
 any_or false b c = refl

@@ -5,6 +5,7 @@ mod listing;
 mod table;
 #[cfg(test)]
 mod tests;
+mod walk;
 
-pub use cfs_steps::{DirAttr, DirRec, Row};
+pub use cfs_steps::{DirRec, Row};
 pub use table::Table;

@@ -1,7 +1,8 @@
 //! The table of a shard.
-ghost use Rattle.std.specs.Prelude.{◌≡◌, ℕ, [], IfOk, OnOk, IfErr, OnErr, IsSome, IsOk, ◌^◌, ◌<◌};
+ghost use Rattle.std.specs.Prelude.{◌≡◌, ◌||◌, ℕ, [], IfOk, OnOk, IfErr, OnErr, IsSome, IsOk, ◌^◌, ◌<◌};
 ghost use Rattle.std.specs.Option.{option_copied, option_map};
 ghost use Rattle.std.specs.Ordering.{nat_cmp};
+ghost use Rattle.std.specs.Cmp.Lexicographic.{slice_cmp};
 ghost use Rattle.std.specs.FinMap as map;
 ghost use Rattle.std.specs.Map.Iter.{ShowsInOrder, deref_pair};
 ghost use Rattle.cfs_ids.specs.declared.ids.DirId.{DirId};
@@ -9,12 +10,16 @@ ghost use Rattle.cfs_ids.specs.Maps.{row_key};
 ghost use Rattle.cfs_steps.specs.declared.contents.DirRec.{DirRec};
 ghost use Rattle.cfs_maps.specs.Walks.{entries_after, first_of};
 ghost use Rattle.cfs_rules.specs.Places.{names_of};
-ghost use Rattle.cfs_rules.specs.Trees.{is_named};
+ghost use Rattle.std.specs.List.{list_any};
+ghost use Rattle.cfs_ids.specs.Namespace.{is_node};
+ghost use Rattle.cfs_maps.specs.NodeSets.{has_node};
+ghost use Rattle.cfs_rules.specs.Trees.{is_named, is_placed};
 ghost use Rattle.cfs_table.specs.Tables.{contents_of};
 
-use crate::listing::{any_names, listed};
-use cfs_ids::{DirId, FileId, Name, NoMemory, RowList};
-use cfs_maps::{NameMap, NumberMap};
+use crate::listing::{add_all, any_names, listed};
+use crate::walk::{first_row, row_above};
+use cfs_ids::{DirId, FileId, Name, NoMemory, Node, RowList};
+use cfs_maps::{NameMap, NodeSet, NumberMap};
 use cfs_steps::{DirRec, Row};
 use std::alloc::Global;
 use std::collections::btree_map::Iter;
@@ -52,9 +57,10 @@ impl Table {
         }
     }
 
-    /// The nodes of the directory, by rising name.
+    /// The nodes of the directory, by rising name. The Err is want of memory, and comes only where it has rows.
     pub fn rows_of(&self, dir: DirId) -> Result<RowList, NoMemory>
-        ensures { IfOk result (λ list. list ≡ map.entries (names_of (contents_of self.now) dir.0)) }
+        ensures rows { IfOk result (λ list. list ≡ map.entries (names_of (contents_of self.now) dir.0)) }
+        ensures sure { map.entries (names_of (contents_of self.now) dir.0) ≡ [] → IsOk result }
     {
         match self.rows.get(dir.0) {
             Some(names) => listed(self.alloc, names),
@@ -74,6 +80,16 @@ impl Table {
         ensures there { IsSome (map.get (contents_of self.old).rows (row_key dir name)) → IsOk result }
     {
         self.rows.set_name(self.alloc, dir.0, name, row)
+    }
+
+    /// Takes the row at a name of the directory out, and answers what stood there. None comes exactly where there was
+    /// none.
+    pub fn cut_row(&mut self, dir: DirId, name: &Name) -> Option<Row>
+        ensures rows { (contents_of self.new).rows ≡ map.remove (contents_of self.old).rows (row_key dir name.now) }
+        ensures recs { (contents_of self.new).recs ≡ (contents_of self.old).recs }
+        ensures before { result ≡ map.get (contents_of self.old).rows (row_key dir name.now) }
+    {
+        self.rows.cut_name(dir.0, name)
     }
 
     /// The record of the directory. None comes exactly where there is none.
@@ -96,6 +112,30 @@ impl Table {
         match self.recs.set(dir.0, rec) {
             Ok(before) => Ok(before),
             Err((_, rec)) => Err(rec),
+        }
+    }
+
+    /// Takes the record of the directory out, and answers what stood there. None comes exactly where there was none.
+    pub fn cut_rec(&mut self, dir: DirId) -> Option<DirRec>
+        ensures recs { (contents_of self.new).recs ≡ map.remove (contents_of self.old).recs dir.0 }
+        ensures rows { (contents_of self.new).rows ≡ (contents_of self.old).rows }
+        ensures before { result ≡ map.get (contents_of self.old).recs dir.0 }
+    {
+        self.recs.cut(dir.0)
+    }
+
+    /// The first row above the name of the directory, or the first of all: by rising directories, and in each by rising
+    /// names. None comes exactly where there is none.
+    pub fn next_row(&self, after: Option<(DirId, &Name)>) -> Option<(DirId, &Name, &Row)>
+        ensures { option_map (λ entry. (row_key entry.0 entry.1.now, entry.2.now)) result ≡ first_of (entries_after (slice_cmp nat_cmp) (option_map (λ place. row_key place.0 place.1.now) after.entry) (map.entries (contents_of self.now).rows)) }
+    {
+        let row = match after {
+            Some((dir, name)) => row_above(&self.rows, dir.0, name),
+            None => first_row(&self.rows, None),
+        };
+        match row {
+            Some((dir, name, row)) => Some((DirId(dir), name, row)),
+            None => None,
         }
     }
 
@@ -122,6 +162,21 @@ impl Table {
     pub fn names_file(&self, file: FileId) -> bool
         ensures { result ≡ is_named (contents_of self.now) file.0 }
     {
-        any_names(&self.rows, file)
+        any_names(&self.rows, Node::File(file))
+    }
+
+    /// Whether some row names the directory.
+    pub fn names_dir(&self, dir: DirId) -> bool
+        ensures { result ≡ is_placed (contents_of self.now) dir.0 }
+    {
+        any_names(&self.rows, Node::Dir(dir))
+    }
+
+    /// Adds the nodes that the rows name to a set. The Err is want of memory.
+    pub fn add_named(&self, nodes: &mut NodeSet) -> Result<(), NoMemory>
+        ensures { OnOk result ((x : _) → has_node nodes.new x ≡ (has_node nodes.old x || list_any (λ e. is_node x e.1.node) (map.entries (contents_of self.now).rows))) }
+    {
+        add_all(nodes, &self.rows)?;
+        Ok(())
     }
 }

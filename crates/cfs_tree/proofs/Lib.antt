@@ -1,4 +1,5 @@
 pub mod Alike
 pub mod Counting
+pub mod Making
 pub mod Root
 pub mod Written

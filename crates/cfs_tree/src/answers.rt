@@ -19,7 +19,9 @@ impl Namespace {
         match call {
             Call::Lookup { dir, name } => Ok(self.answer_lookup(*dir, name)),
             Call::List { dir } => self.answer_list(alloc, *dir),
-            Call::Create { dir, name } => Ok(self.answer_create(*dir, name)),
+            Call::Create { dir, name } | Call::Mkdir { dir, name } => {
+                Ok(self.answer_new(*dir, name))
+            }
         }
     }
 
@@ -44,7 +46,8 @@ impl Namespace {
         }
     }
 
-    fn answer_create(&self, dir: DirId, name: &Name) -> Reply
+    // Whether a new node may take the name.
+    fn answer_new(&self, dir: DirId, name: &Name) -> Reply
         ensures { result ≡ create_in (map.get self.now.dirs dir.0) name.now }
     {
         let Some(directory) = self.dirs.get(dir.0) else {

@@ -2,8 +2,10 @@
 ghost use Rattle.std.specs.Prelude.{◌≡◌, OnOk, OnErr, IsOk, IsSome, None, not, true, false};
 ghost use Rattle.std.specs.FinMap as map;
 ghost use Rattle.cfs_ids.specs.declared.call.Reply.TheVariants.{Moved};
-ghost use Rattle.cfs_ids.specs.Namespace.{after, created, create_in, with_name, forget, is_listed, IsDefined};
+ghost use Rattle.cfs_ids.specs.Namespace.{after, create_in, with_name, forget, is_listed, IsDefined};
 ghost use Rattle.cfs_tree.specs.Added.{with_dir, with_row, with_file, timed, named};
+ghost use Rattle.cfs_tree.specs.Made.{IsNew, with_node, without_node, made};
+ghost use Rattle.cfs_tree.specs.Rows.{node_at};
 
 use crate::directory::Directory;
 use crate::file::FileFacts;
@@ -37,6 +39,7 @@ fn set_name(
     requires { IsSome (map.get dirs.old dir.0) }
     ensures ok { OnOk result (dirs.new ≡ map.insert dirs.old dir.0 (named (map.get dirs.old dir.0) name node)) }
     ensures err { OnErr result (dirs.new ≡ dirs.old) }
+    ensures there { IsSome (node_at (map.get dirs.old dir.0) name) → IsOk result }
 {
     dirs.get_mut(dir.0).unwrap().set(name, node)
 }
@@ -72,25 +75,55 @@ impl Namespace {
     {
         match (call, made) {
             (Call::Create { dir, name }, Some(Node::File(file))) => {
-                self.create(*dir, name, file, time)
+                self.make(*dir, name, Node::File(file), time)
+            }
+            (Call::Mkdir { dir, name }, Some(Node::Dir(child))) => {
+                self.make(*dir, name, Node::Dir(child), time)
             }
             _ => Ok(()),
         }
     }
 
-    fn create(&mut self, dir: DirId, name: &Name, file: FileId, time: Ts) -> Result<(), NoMemory>
+    // Makes a new node of this name.
+    fn make(&mut self, dir: DirId, name: &Name, node: Node, time: Ts) -> Result<(), NoMemory>
         requires free { create_in (map.get self.old.dirs dir.0) name.now ≡ Moved }
-        requires new { map.get self.old.files file.0 ≡ None }
-        ensures ok { OnOk result (self.new ≡ created self.old dir name.now file time) }
+        requires new { IsNew self.old node }
+        ensures ok { OnOk result (self.new ≡ made self.old dir name.now node time) }
         ensures err { OnErr result (self.new ≡ self.old) }
     {
         let name = name.copy()?;
-        self.add_file(file, 0, time)?;
-        match put_name(&mut self.dirs, dir, name, Node::File(file), time) {
+        self.add_node(node, time)?;
+        match put_name(&mut self.dirs, dir, name, node, time) {
             Ok(()) => Ok(()),
             Err(failed) => {
-                let _ = self.files.cut(file.0);
+                self.cut_node(node);
                 Err(failed)
+            }
+        }
+    }
+
+    // Adds an empty node that isn't there.
+    fn add_node(&mut self, node: Node, time: Ts) -> Result<(), NoMemory>
+        requires { IsNew self.old node }
+        ensures ok { OnOk result (self.new ≡ with_node self.old node time) }
+        ensures err { OnErr result (self.new ≡ self.old) }
+    {
+        match node {
+            Node::Dir(dir) => self.set_dir(dir, Directory::new(self.alloc, time)),
+            Node::File(file) => self.add_file(file, 0, time),
+        }
+    }
+
+    // Takes the node out.
+    fn cut_node(&mut self, node: Node)
+        ensures { self.new ≡ without_node self.old node }
+    {
+        match node {
+            Node::Dir(dir) => {
+                let _ = self.dirs.cut(dir.0);
+            }
+            Node::File(file) => {
+                let _ = self.files.cut(file.0);
             }
         }
     }
@@ -130,11 +163,12 @@ impl Namespace {
         }
     }
 
-    /// Adds a row to a directory that is there. The Err is want of memory, and then nothing changed.
+    /// Adds a row to a directory that is there. The Err is want of memory for a new name, and then nothing changed.
     pub fn add_row(&mut self, dir: DirId, name: Name, node: Node) -> Result<(), NoMemory>
         requires { IsSome (map.get self.old.dirs dir.0) }
         ensures ok { OnOk result (self.new ≡ with_row self.old dir name node) }
         ensures err { OnErr result (self.new ≡ self.old) }
+        ensures there { IsSome (node_at (map.get self.old.dirs dir.0) name) → IsOk result }
     {
         set_name(&mut self.dirs, dir, name, node)
     }

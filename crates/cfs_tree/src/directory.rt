@@ -1,5 +1,5 @@
 //! A directory of the namespace.
-ghost use Rattle.std.specs.Prelude.{◌≡◌, ℕ, List, OnOk, OnErr, IfOk, IsTrue, ◌↔◌, ◌^◌, ◌<◌, max};
+ghost use Rattle.std.specs.Prelude.{◌≡◌, ℕ, List, OnOk, OnErr, IfOk, IsOk, IsSome, IsTrue, ◌↔◌, ◌^◌, ◌<◌, max};
 ghost use Rattle.std.specs.Option.{option_copied, option_map};
 ghost use Rattle.std.specs.Map.Iter.{ShowsInOrder, deref_pair};
 ghost use Rattle.std.specs.FinMap as map;
@@ -135,10 +135,11 @@ impl Directory {
         self.time = time;
     }
 
-    /// Sets the node of the name. The Err is want of memory, and then nothing changed.
+    /// Sets the node of the name. The Err is want of memory for a new name, and then nothing changed.
     pub(crate) fn set(&mut self, name: Name, node: Node) -> Result<(), NoMemory>
         ensures ok { OnOk result (self.new ≡ record { names = map.insert self.old.names name node; time = self.old.time }) }
         ensures err { OnErr result (self.new ≡ self.old) }
+        ensures there { IsSome (map.get self.old.names name) → IsOk result }
     {
         match self.names.set(name, node) {
             Ok(_) => Ok(()),

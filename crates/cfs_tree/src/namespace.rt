@@ -10,9 +10,10 @@ use cfs_maps::NumberMap;
 use std::alloc::Global;
 use std::marker::Model;
 
-/// The directories and the files, by their numbers.
+/// The directories and the files, by their numbers, and the allocator that a move takes memory from.
 #[derive(Drop)]
 pub struct Namespace {
+    pub(crate) alloc: Global,
     pub(crate) dirs: NumberMap<Directory>,
     pub(crate) files: NumberMap<FileFacts>,
 }
@@ -34,6 +35,7 @@ impl Namespace {
         ensures { result ≡ record { dirs = map.empty; files = map.empty } }
     {
         Namespace {
+            alloc,
             dirs: NumberMap::new(alloc),
             files: NumberMap::new(alloc),
         }
@@ -46,6 +48,7 @@ impl Namespace {
         let mut dirs = NumberMap::new(alloc);
         match dirs.set(0, Directory::new(alloc, 0)) {
             Ok(_) => Ok(Namespace {
+                alloc,
                 dirs,
                 files: NumberMap::new(alloc),
             }),

@@ -23,6 +23,18 @@ fn with_a_file(alloc: Global) -> Result<Namespace, NoMemory> {
     Ok(namespace)
 }
 
+// The root with a directory 65 named d, made at time 3.
+fn with_a_directory(alloc: Global) -> Result<Namespace, NoMemory> {
+    let name = named(alloc, b"d")?;
+    let mut namespace = Namespace::empty_root(alloc)?;
+    let mkdir = Call::Mkdir {
+        dir: DirId(0),
+        name,
+    };
+    namespace.apply(&mkdir, Some(Node::Dir(DirId(65))), 3)?;
+    Ok(namespace)
+}
+
 #[test]
 fn the_root_is_empty(rt: HostRuntime) -> Result<(), NoMemory> {
     let alloc = rt.alloc();
@@ -43,6 +55,43 @@ fn a_file_is_made(rt: HostRuntime) -> Result<(), NoMemory> {
     assert!(rt; !namespace.forget(FileId(64)));
     assert!(rt; namespace.next_file(None) == Some((FileId(64), 0, 3)));
     assert!(rt; !namespace.same(&Namespace::empty_root(alloc)?));
+    Ok(())
+}
+
+#[test]
+fn a_directory_is_made(rt: HostRuntime) -> Result<(), NoMemory> {
+    let alloc = rt.alloc();
+    let namespace = with_a_directory(alloc)?;
+    assert!(rt; namespace.counts(ROOT) == Some((1, 3)));
+    assert!(rt; namespace.counts(DirId(65)) == Some((0, 2)));
+    assert!(rt; namespace.next_dir(None) == Some((ROOT, 3)));
+    assert!(rt; namespace.next_dir(Some(ROOT)) == Some((DirId(65), 3)));
+    assert!(rt; namespace.next_file(None).is_none());
+    let list = namespace.answer(alloc, &Call::List { dir: ROOT })?;
+    let Reply::Rows(rows) = list else {
+        panic!(rt; "a directory has rows");
+    };
+    assert!(rt; rows.len() == 1);
+    let row = rows.get(0);
+    assert!(rt; row.is_some_and(|row| row.1 == Node::Dir(DirId(65))));
+    Ok(())
+}
+
+#[test]
+fn a_directory_takes_a_free_name(rt: HostRuntime) -> Result<(), NoMemory> {
+    let alloc = rt.alloc();
+    let namespace = with_a_directory(alloc)?;
+    let name = named(alloc, b"d")?;
+    let taken = namespace.answer(alloc, &Call::Mkdir { dir: ROOT, name })?;
+    assert!(rt; matches!(taken, Reply::Refused(Errno::Eexist)));
+    let name = named(alloc, b"d")?;
+    let dir = DirId(65);
+    let free = namespace.answer(alloc, &Call::Mkdir { dir, name })?;
+    assert!(rt; matches!(free, Reply::Moved));
+    let name = named(alloc, b"d")?;
+    let dir = DirId(129);
+    let absent = namespace.answer(alloc, &Call::Mkdir { dir, name })?;
+    assert!(rt; matches!(absent, Reply::Refused(Errno::Enoent)));
     Ok(())
 }
 

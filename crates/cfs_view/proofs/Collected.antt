@@ -33,7 +33,7 @@ module _ {K X Y : Type 0} {R : K → K → Ordering} (o : IsTotalOrder R) (same 
       by_test Equal is h rest = absurd h
       by_test Greater is h rest = absurd h
 
-  get-with_each : (m : FinMap R Y) (es : List (K × X)) (q : K) → T (is_sorted R es) → get (with_each value m es) q ≡ given (value q) (find R q es) (get m q)
+  pub get-with_each : (m : FinMap R Y) (es : List (K × X)) (q : K) → T (is_sorted R es) → get (with_each value m es) q ≡ given (value q) (find R q es) (get m q)
   get-with_each m [] q sorted = refl
   get-with_each m (e ∷ es) q sorted = by_test (R q e.0) refl (below_all R e.0 es) refl sorted (get-with_each (with_value m e.0 (value e.0 e.1)) es q)
     where

@@ -1,3 +1,9 @@
 pub mod Collected
 pub mod Counted
-pub mod Shown
+pub mod HeldSteps
+pub mod OneOfSeveral
+pub mod Openings
+pub mod Serving
+pub mod TreeParts
+pub mod WholeCounts
+pub mod WholeTree

@@ -1,35 +1,30 @@
 -- What all places hold, and how they serve an ask. A log stands the newest entry first.
-use Rattle.std.specs.Prelude.{ℕ, List, [], ◌∷◌, length, Bool, true, false, nat_le, nat_lt}
+use Rattle.std.specs.Prelude.{ℕ, ◌+◌, List, [], ◌∷◌, length, Bool, true, false, ◌||◌, ◌&&◌, ◌==◌, nat_le, nat_lt, if◌then◌else◌}
 use Rattle.std.specs.FinMap.{empty}
 use Rattle.cfs_ids.specs.declared.ids.Actor.{Actor}
 use Rattle.cfs_steps.specs.declared.ask.Ask.{Ask}
 use Rattle.cfs_steps.specs.declared.entry.Entry.{Entry}
 use Rattle.cfs_steps.specs.Asks.{place_of}
 use Rattle.cfs_rules.specs.Places.{Shard, Store, Roster, Served, opening_shard, serve_shard, serve_store, serve_roster, entry_by, number_after, is_full}
+use Rattle.cfs_rules.specs.Worlds.{Counts, set_last, stamped}
 
+-- what all shards, all stores and the roster have, and the last number and the log of each place
 pub record Held : Type 0 where
   pub shard : Shard
-  pub shard_last : ℕ
-  pub shard_log : List Entry
   pub store : Store
-  pub store_last : ℕ
-  pub store_log : List Entry
   pub roster : Roster
-  pub roster_last : ℕ
-  pub roster_log : List Entry
+  pub lasts : ℕ → ℕ
+  pub logs : ℕ → List Entry
 
 abbrev pub opening_held : Held
-opening_held = record {
-  shard = opening_shard;
-  shard_last = 0;
-  shard_log = [];
-  store = empty;
-  store_last = 0;
-  store_log = [];
-  roster = [];
-  roster_last = 0;
-  roster_log = [];
-}
+opening_held = record { shard = opening_shard; store = empty; roster = []; lasts = λ place. 0; logs = λ place. [] }
+
+-- the places that there are
+abbrev pub has_place : Counts → ℕ → Bool
+has_place counts place = nat_lt place counts.shards || ((nat_le 64 place && nat_lt place (64 + counts.stores)) || place == 129)
+
+abbrev pub set_log : (ℕ → List Entry) → ℕ → List Entry → ℕ → List Entry
+set_log logs place log i = if i == place then log else logs i
 
 -- the entry of a step, and what the places hold after it
 pub record Step : Type 0 where
@@ -39,54 +34,35 @@ pub record Step : Type 0 where
 abbrev pub after_shard : Held → Actor → Ask → ℕ → Served Shard → Step
 after_shard h actor ask number s = record {
   entry = entry_by actor number ask s;
-  held = record h { shard = s.contents; shard_last = number; shard_log = entry_by actor number ask s ∷ h.shard_log };
+  held = record h { shard = s.contents; lasts = set_last h.lasts (place_of ask).0 number; logs = set_log h.logs (place_of ask).0 (entry_by actor number ask s ∷ h.logs (place_of ask).0) };
 }
 
 abbrev pub after_store : Held → Actor → Ask → ℕ → Served Store → Step
 after_store h actor ask number s = record {
   entry = entry_by actor number ask s;
-  held = record h { store = s.contents; store_last = number; store_log = entry_by actor number ask s ∷ h.store_log };
+  held = record h { store = s.contents; lasts = set_last h.lasts (place_of ask).0 number; logs = set_log h.logs (place_of ask).0 (entry_by actor number ask s ∷ h.logs (place_of ask).0) };
 }
 
 abbrev pub after_roster : Held → Actor → Ask → ℕ → Served Roster → Step
 after_roster h actor ask number s = record {
   entry = entry_by actor number ask s;
-  held = record h { roster = s.contents; roster_last = number; roster_log = entry_by actor number ask s ∷ h.roster_log };
+  held = record h { roster = s.contents; lasts = set_last h.lasts (place_of ask).0 number; logs = set_log h.logs (place_of ask).0 (entry_by actor number ask s ∷ h.logs (place_of ask).0) };
 }
 
-abbrev pub in_shard : Held → Actor → Ask → ℕ → Step
-in_shard h actor ask number = after_shard h actor ask number (serve_shard h.shard (record { number = number; place = record { 0 = 0 } }) ask)
-
-abbrev pub in_store : Held → Actor → Ask → ℕ → Step
-in_store h actor ask number = after_store h actor ask number (serve_store 0 h.store (record { number = number; place = record { 0 = 64 } }) ask)
-
-abbrev pub in_roster : Held → Actor → Ask → ℕ → Step
-in_roster h actor ask number = after_roster h actor ask number (serve_roster h.roster ask)
-
--- places below 64 are the shard, places from there below 128 the store, and the others the roster
-abbrev pub serve_in : Bool → Bool → Held → Actor → ℕ → Ask → Step
-serve_in true store h actor last ask = in_shard h actor ask (number_after last h.shard_last)
-serve_in false true h actor last ask = in_store h actor ask (number_after last h.store_last)
-serve_in false false h actor last ask = in_roster h actor ask (number_after last h.roster_last)
+-- places below 64 are the shards, places from there below 128 the stores, and the others the roster
+abbrev pub serve_in : Bool → Bool → Held → Actor → Ask → ℕ → Step
+serve_in true store h actor ask number = after_shard h actor ask number (serve_shard h.shard (stamped number ask) ask)
+serve_in false true h actor ask number = after_store h actor ask number (serve_store h.store (stamped number ask) ask)
+serve_in false false h actor ask number = after_roster h actor ask number (serve_roster h.roster ask)
 
 -- the step of an actor whose last number is `last`
 abbrev pub serve : Held → Actor → ℕ → Ask → Step
-serve h actor last ask = serve_in (nat_lt (place_of ask).0 64) (nat_lt (place_of ask).0 128) h actor last ask
+serve h actor last ask = serve_in (nat_lt (place_of ask).0 64) (nat_lt (place_of ask).0 128) h actor ask (number_after last (h.lasts (place_of ask).0))
 
 -- whether the place serves nothing more
-abbrev pub full_in : Bool → Bool → Held → ℕ → Bool
-full_in true store h last = is_full (length h.shard_log) last h.shard_last
-full_in false true h last = is_full (length h.store_log) last h.store_last
-full_in false false h last = is_full (length h.roster_log) last h.roster_last
-
 abbrev pub full : Held → ℕ → Ask → Bool
-full h last ask = full_in (nat_lt (place_of ask).0 64) (nat_lt (place_of ask).0 128) h last
+full h last ask = is_full (length (h.logs (place_of ask).0)) last (h.lasts (place_of ask).0)
 
 -- whether the log of the ask's place has its greatest length
-abbrev pub log_full_in : Bool → Bool → Held → Bool
-log_full_in true store h = nat_le 1048576 (length h.shard_log)
-log_full_in false true h = nat_le 1048576 (length h.store_log)
-log_full_in false false h = nat_le 1048576 (length h.roster_log)
-
 abbrev pub log_full : Held → Ask → Bool
-log_full h ask = log_full_in (nat_lt (place_of ask).0 64) (nat_lt (place_of ask).0 128) h
+log_full h ask = nat_le 1048576 (length (h.logs (place_of ask).0))

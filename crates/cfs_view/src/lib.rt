@@ -3,6 +3,7 @@
 
 mod counts;
 mod places;
+mod several;
 mod tree;
 
 pub use counts::{Tallied, tally};

@@ -1,19 +1,36 @@
 //! The tree that the places hold.
-ghost use Rattle.std.specs.Prelude.{◌≡◌, ◌||◌, IfOk, OnOk, is_none};
-ghost use Rattle.std.specs.FinMap as map;
-ghost use Rattle.cfs_rules.specs.Trees.{tree, directory_of, is_named};
+ghost use Rattle.std.specs.Prelude.{◌≡◌, ◌==◌, ◌||◌, IfOk, OnOk, false, is_none, map};
+ghost use Rattle.std.specs.List.{list_any};
+ghost use Rattle.std.specs.FinMap as finmap;
+ghost use Rattle.cfs_ids.specs.Namespace.{is_node};
+ghost use Rattle.cfs_maps.specs.NodeSets.{has_node};
+ghost use Rattle.cfs_rules.specs.Trees.{tree, directory_of};
 ghost use Rattle.cfs_shard.specs.Shards as shards;
 ghost use Rattle.cfs_store.specs.Stores as stores;
 ghost use Rattle.cfs_view.specs.Collected.{with_each, with_value};
+ghost use Rattle.cfs_rules.specs.Several.{contents_in};
+ghost use Rattle.cfs_view.specs.PlaceViews.{shard_view, store_view};
 ghost use Rattle.cfs_view.specs.Views.{held};
-ghost use Rattle.cfs_view.specs.Shown.{shown_dir, shown_file};
+ghost use Rattle.cfs_view.specs.Shown.{names_in, shown_dir, shown_file, with_shards, with_stores};
 
 use crate::places::Places;
-use cfs_ids::{Client, DirId, FileId, NoMemory};
+use cfs_ids::{Client, DirId, FileId, NoMemory, Node};
+use cfs_maps::NodeSet;
 use cfs_shard::{DirRec, Shard};
 use cfs_store::{FileRec, Store};
 use cfs_tree::{Directory, Namespace};
 use std::alloc::Global;
+
+// The nodes that the rows of all shards name.
+fn named_nodes(alloc: Global, shards: &[Shard]) -> Result<NodeSet, NoMemory>
+    ensures { IfOk result (λ named. (x : _) → has_node named x ≡ names_in (contents_in (map shard_view shards.now)) x) }
+{
+    let mut named = NodeSet::new(alloc);
+    for shard in shards {
+        shard.add_named(&mut named)?;
+    }
+    Ok(named)
+}
 
 // The directory, with its rows and the time of its record.
 fn directory_of(
@@ -28,58 +45,116 @@ fn directory_of(
     Directory::of_rows(alloc, rec.attr.time, &rows)
 }
 
-// Adds the directories that have a record.
-fn add_dirs(alloc: Global, namespace: &mut Namespace, shard: &Shard) -> Result<(), NoMemory>
-    ensures { OnOk result (namespace.new ≡ record { dirs = with_each (shown_dir (shards.contents_of shard.now)) namespace.old.dirs (map.entries (shards.contents_of shard.now).recs); files = namespace.old.files }) }
+// Whether the directory is the root or among the named.
+fn is_shown(named: &NodeSet, dir: DirId) -> bool
+    ensures { result ≡ (dir.0 == 0 || has_node named.now (Node.Dir dir)) }
 {
-    for (dir, rec) in shard.recs() {
-        let dir = DirId(*dir);
+    dir.0 == 0 || named.has(Node::Dir(dir))
+}
+
+// Adds the directory if it counts.
+fn add_dir(
+    alloc: Global,
+    namespace: &mut Namespace,
+    named: &NodeSet,
+    shard: &Shard,
+    dir: DirId,
+    rec: &DirRec,
+) -> Result<(), NoMemory>
+    ensures { OnOk result (namespace.new ≡ record { dirs = with_value namespace.old.dirs dir.0 (shown_dir (has_node named.now) (shards.contents_of shard.now) dir.0 rec.now); files = namespace.old.files }) }
+{
+    if is_shown(named, dir) {
         let directory = directory_of(alloc, shard, dir, rec)?;
         namespace.set_dir(dir, directory)?;
     }
     Ok(())
 }
 
-// Whether the file has no owner or a row names it. The rows are asked last.
-fn is_counted(shard: &Shard, file: FileId, owner: Option<Client>) -> bool
-    ensures { result ≡ (is_none owner || is_named (shards.contents_of shard.now) file.0) }
+// Adds the directories of a shard that count.
+fn add_dirs(
+    alloc: Global,
+    namespace: &mut Namespace,
+    named: &NodeSet,
+    shard: &Shard,
+) -> Result<(), NoMemory>
+    ensures { OnOk result (namespace.new ≡ record { dirs = with_each (shown_dir (has_node named.now) (shards.contents_of shard.now)) namespace.old.dirs (finmap.entries (shards.contents_of shard.now).recs); files = namespace.old.files }) }
 {
-    owner.is_none() || shard.names_file(file)
+    for (dir, rec) in shard.recs() {
+        add_dir(alloc, namespace, named, shard, DirId(*dir), rec)?;
+    }
+    Ok(())
+}
+
+// Adds the directories of all shards that count.
+fn add_all_dirs(
+    alloc: Global,
+    namespace: &mut Namespace,
+    named: &NodeSet,
+    shards: &[Shard],
+) -> Result<(), NoMemory>
+    ensures { OnOk result (namespace.new ≡ record { dirs = with_shards (has_node named.now) namespace.old.dirs (contents_in (map shard_view shards.now)); files = namespace.old.files }) }
+{
+    for shard in shards {
+        add_dirs(alloc, namespace, named, shard)?;
+    }
+    Ok(())
+}
+
+// Whether the file has no owner or is among the named.
+fn is_counted(named: &NodeSet, file: FileId, owner: Option<Client>) -> bool
+    ensures { result ≡ (is_none owner || has_node named.now (Node.File file)) }
+{
+    owner.is_none() || named.has(Node::File(file))
 }
 
 // Adds the file if it counts.
 fn add_file(
     namespace: &mut Namespace,
-    shard: &Shard,
+    named: &NodeSet,
     file: FileId,
     rec: &FileRec,
 ) -> Result<(), NoMemory>
-    ensures { OnOk result (namespace.new ≡ record { dirs = namespace.old.dirs; files = with_value namespace.old.files file.0 (shown_file (shards.contents_of shard.now) file.0 rec.now) }) }
+    ensures { OnOk result (namespace.new ≡ record { dirs = namespace.old.dirs; files = with_value namespace.old.files file.0 (shown_file (has_node named.now) file.0 rec.now) }) }
 {
-    if is_counted(shard, file, rec.owner) {
+    if is_counted(named, file, rec.owner) {
         namespace.add_file(file, rec.size, rec.time)
     } else {
         Ok(())
     }
 }
 
-// Adds the files that count.
-fn add_files(namespace: &mut Namespace, shard: &Shard, store: &Store) -> Result<(), NoMemory>
-    ensures { OnOk result (namespace.new ≡ record { dirs = namespace.old.dirs; files = with_each (shown_file (shards.contents_of shard.now)) namespace.old.files (map.entries (stores.contents_of store.now)) }) }
+// Adds the files of a store that count.
+fn add_files(namespace: &mut Namespace, named: &NodeSet, store: &Store) -> Result<(), NoMemory>
+    ensures { OnOk result (namespace.new ≡ record { dirs = namespace.old.dirs; files = with_each (shown_file (has_node named.now)) namespace.old.files (finmap.entries (stores.contents_of store.now)) }) }
 {
     for (file, rec) in store.files() {
-        add_file(namespace, shard, FileId(*file), rec)?;
+        add_file(namespace, named, FileId(*file), rec)?;
     }
     Ok(())
 }
 
-/// The tree that the places hold: the directories with a record, and the files that have a record and no owner, or
-/// that a row names. The Err is want of memory.
+// Adds the files of all stores that count.
+fn add_all_files(
+    namespace: &mut Namespace,
+    named: &NodeSet,
+    stores: &[Store],
+) -> Result<(), NoMemory>
+    ensures { OnOk result (namespace.new ≡ record { dirs = namespace.old.dirs; files = with_stores (has_node named.now) namespace.old.files (contents_in (map store_view stores.now)) }) }
+{
+    for store in stores {
+        add_files(namespace, named, store)?;
+    }
+    Ok(())
+}
+
+/// The tree that the places hold: the root and the directories that a row names, and the files that have a record and
+/// no owner, or that a row names. The Err is want of memory.
 pub fn tree_of(alloc: Global, places: &Places) -> Result<Namespace, NoMemory>
     ensures { IfOk result (λ namespace. namespace ≡ tree (held places.now).shard (held places.now).store) }
 {
+    let named = named_nodes(alloc, places.shards())?;
     let mut namespace = Namespace::new(alloc);
-    add_dirs(alloc, &mut namespace, places.shard())?;
-    add_files(&mut namespace, places.shard(), places.store())?;
+    add_all_dirs(alloc, &mut namespace, &named, places.shards())?;
+    add_all_files(&mut namespace, &named, places.stores())?;
     Ok(namespace)
 }

@@ -1,4 +1,4 @@
--- What a writer shows: its client, the index of its next put's store, and where its call is.
+-- What a writer shows: its client, the index of its put's shard or store, and where its call is.
 use Rattle.std.specs.Prelude.{ℕ}
 use Rattle.cfs_ids.specs.declared.ids.Client.{Client}
 use Rattle.cfs_steps.specs.Phases.{Phase}

@@ -1,4 +1,4 @@
-//! The calls that write: create.
+//! The calls that write: create and mkdir.
 #![tactic(auto)]
 
 mod state;

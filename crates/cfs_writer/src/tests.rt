@@ -1,69 +1,40 @@
-//! A create, step by step, on values typed by hand.
-ghost use Rattle.std.specs.Prelude.{◌≡◌};
+//! A create and a mkdir, step by step, on values typed by hand.
+ghost use Rattle.std.specs.Prelude.{◌≡◌, IsTrue, IfOk};
+ghost use Rattle.cfs_steps.specs.Phases.{answers, heard_as, is_going};
+ghost use Rattle.cfs_writer.specs.WriterViews.{phase_in};
 
 use crate::Writer;
-use cfs_ids::{Actor, At, Call, Client, DirId, FileId, Name, Node, PlaceNo, Reply, Stamp};
-use cfs_steps::{Answer, Ask, Entry, Machine};
+use cfs_ids::{Actor, At, Call, Client, DirId, Errno, FileId, Name, Node, PlaceNo, Reply, Stamp};
+use cfs_steps::{Answer, Entry, Machine};
 use std::test::Fail;
 
-// The entry of a step with this number and answer.
-fn entry(number: u64, answer: Answer) -> Entry
-    ensures { result.answer ≡ answer }
+// The call's next step, with this number and answer: its place.
+fn take_step(writer: &mut Writer, number: u64, answer: Answer) -> Result<PlaceNo, Fail>
+    requires going { IsTrue (is_going (phase_in writer.old)) }
+    requires listed { IsTrue (answers (phase_in writer.old) answer) }
+    ensures { IfOk result (λ place. phase_in writer.new ≡ heard_as (phase_in writer.old) (record { number = number; place = place }) answer) }
 {
-    let client = Client(1);
-    Entry {
-        actor: Actor::Client(client),
+    let place = writer.next_place();
+    let entry = Entry {
+        actor: Actor::Client(Client(1)),
         number,
-        ask: Ask::End { client },
+        ask: writer.ask(0)?,
         answer,
         moved: None,
-    }
+    };
+    writer.hear(place, &entry)?;
+    Ok(place)
 }
 
 #[test]
-fn creates(rt: HostRuntime) -> Result<(), Fail> {
+fn takes_a_file_back_where_the_name_is_taken(rt: HostRuntime) -> Result<(), Fail> {
+    let dir = DirId(66);
     let name = Name::read(rt.alloc(), b"a")?;
-    let call = Call::Create {
-        dir: DirId(66),
-        name,
-    };
-    let file = Node::File(FileId(64));
-    let mut writer = Writer::start(Client(1), call, 0);
-    assert_eq!(rt; writer.next_place(), PlaceNo(64));
-    assert!(rt;
-        matches!(
-            writer.ask(0)?,
-            Ask::Put {
-                at: PlaceNo(64),
-                home: DirId(66),
-                ..
-            }
-        )
-    );
-    writer.hear(PlaceNo(64), &entry(1, Answer::New(file)))?;
-    assert_eq!(rt; writer.next_place(), PlaceNo(2));
-    assert!(rt;
-        matches!(
-            writer.ask(1)?,
-            Ask::Insert {
-                dir: DirId(66),
-                ts: 1,
-                ..
-            }
-        )
-    );
-    writer.hear(PlaceNo(2), &entry(2, Answer::Exists))?;
-    assert_eq!(rt; writer.next_place(), PlaceNo(64));
-    assert!(rt;
-        matches!(
-            writer.ask(2)?,
-            Ask::TakeBack {
-                client: Client(1),
-                ..
-            }
-        )
-    );
-    writer.hear(PlaceNo(64), &entry(3, Answer::Done(None)))?;
+    let mut writer = Writer::start(Client(1), Call::Create { dir, name }, 0);
+    let put = take_step(&mut writer, 1, Answer::New(Node::File(FileId(64))))?;
+    let insert = take_step(&mut writer, 2, Answer::Exists)?;
+    let back = take_step(&mut writer, 3, Answer::Done(None))?;
+    assert_eq!(rt; (put, insert, back), (PlaceNo(64), PlaceNo(2), PlaceNo(64)));
     let Some(done) = writer.finished() else {
         assert!(rt; false, "a finished call");
         return Ok(());
@@ -72,8 +43,27 @@ fn creates(rt: HostRuntime) -> Result<(), Fail> {
         number: 2,
         place: PlaceNo(2),
     };
-    assert_eq!(rt; done.at, At::Before(point));
-    assert_eq!(rt; done.last.number, 3);
-    assert!(rt; matches!(&done.reply, Reply::Refused(cfs_ids::Errno::Eexist)));
+    assert_eq!(rt; (done.at, done.last.number), (At::Before(point), 3));
+    assert!(rt; matches!(&done.reply, Reply::Refused(Errno::Eexist)));
+    Ok(())
+}
+
+#[test]
+fn makes_a_directory(rt: HostRuntime) -> Result<(), Fail> {
+    let dir = DirId(66);
+    let name = Name::read(rt.alloc(), b"d")?;
+    let child = Node::Dir(DirId(65));
+    let mut writer = Writer::start(Client(1), Call::Mkdir { dir, name }, 1);
+    let put = take_step(&mut writer, 1, Answer::New(child))?;
+    let insert = take_step(&mut writer, 2, Answer::Done(None))?;
+    let settle = take_step(&mut writer, 3, Answer::Done(None))?;
+    assert_eq!(rt; (put, insert, settle), (PlaceNo(1), PlaceNo(2), PlaceNo(1)));
+    let Some(done) = writer.finished() else {
+        assert!(rt; false, "a finished call");
+        return Ok(());
+    };
+    assert_eq!(rt; (done.made, done.ts), (Some(child), 1));
+    assert!(rt; matches!(&done.call, Call::Mkdir { .. }));
+    assert!(rt; matches!(&done.reply, Reply::Moved));
     Ok(())
 }

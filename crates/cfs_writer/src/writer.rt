@@ -1,15 +1,15 @@
 //! The machine of a writing call.
 ghost use Rattle.std.specs.Prelude.{◌≡◌, ◌<◌, ◌+◌, ℕ, IsTrue, IfOk, OnOk, OnErr, IsNone, Some, None};
 ghost use Rattle.cfs_steps.specs.Asks.{place_of, home_of};
-ghost use Rattle.cfs_steps.specs.Phases.{Asking, Finished, replied, moved as moved_phase, heard_insert, answers_insert, is_going, first_ask, ask_of, heard_as, answers, heard, done_of};
+ghost use Rattle.cfs_steps.specs.Phases.{Asking, Finished, maker, replied, moved as moved_phase, heard_insert, answers_insert, is_going, first_ask, ask_of, heard_as, answers, heard, done_of};
 ghost use Rattle.cfs_rules.specs.Worlds.{begun_of};
 ghost use Rattle.cfs_writer.specs.Writers.{phase_of, is_writing, writes};
 
 use crate::state::{Creation, WriterState};
-use cfs_ids::{At, Call, Client, Errno, FileId, NoMemory, Node, PlaceNo, Reply, Stamp, Ts};
+use cfs_ids::{At, Call, Client, Errno, NoMemory, Node, PlaceNo, Reply, Stamp, Ts};
 use cfs_steps::{Answer, Ask, CallDone, Entry, Machine};
 
-/// A create on its way. `put_index` is the index of the store of the client's next put.
+/// A create or mkdir on its way. `put_index` is the index of the store of its file, or of the shard of its directory.
 #[derive(Debug, Drop)]
 pub struct Writer {
     client: Client,
@@ -22,7 +22,7 @@ pub struct Writer {
 impl Writer {
     ghost use Rattle.cfs_writer.specs.WriterViews.{client_in, index_in, phase_in};
 
-    /// The call of this client, which is a create and has made no step.
+    /// The call of this client, which is a create or mkdir and has made no step.
     pub fn start(client: Client, call: Call, put_index: u32) -> Writer
         requires writing { IsTrue (is_writing call) }
         requires small { put_index < 64 }
@@ -52,6 +52,28 @@ impl Writer {
     }
 }
 
+// The ask that puts the node of a call.
+fn put_ask(client: Client, put_index: u32, call: &Call) -> Result<Ask, NoMemory>
+    requires writing { IsTrue (is_writing call.now) }
+    requires small { put_index < 64 }
+    ensures { IfOk result (λ ask. ask ≡ first_ask client put_index call.now) }
+{
+    match call {
+        Call::Create { dir, .. } => Ok(Ask::Put {
+            client,
+            at: PlaceNo(64 + put_index),
+            home: *dir,
+        }),
+        Call::Mkdir { dir, name } => Ok(Ask::PutDir {
+            client,
+            at: PlaceNo(put_index),
+            dir: *dir,
+            name: name.copy()?,
+        }),
+        Call::Lookup { .. } | Call::List { .. } => unreachable!(),
+    }
+}
+
 // The ask of a state.
 fn ask_in(client: Client, put_index: u32, state: &WriterState) -> Result<Ask, NoMemory>
     requires going { IsTrue (is_going (phase_of state.now)) }
@@ -60,49 +82,61 @@ fn ask_in(client: Client, put_index: u32, state: &WriterState) -> Result<Ask, No
     ensures { IfOk result (λ ask. ask ≡ ask_of client put_index (phase_of state.now)) }
 {
     match state {
-        WriterState::Asking(Call::Create { dir, .. }) => Ok(Ask::Put {
-            client,
-            at: PlaceNo(64 + put_index),
-            home: *dir,
-        }),
-        WriterState::Asking(_) | WriterState::Finished(_) => unreachable!(),
+        WriterState::Asking(call) => put_ask(client, put_index, call),
+        WriterState::Finished(_) => unreachable!(),
         WriterState::Inserting { creation, ts } => Ok(Ask::Insert {
             client,
             dir: creation.dir,
             name: creation.name.copy()?,
-            node: Node::File(creation.file),
+            node: creation.node,
             ts: *ts,
         }),
         WriterState::Settling { creation, .. } => Ok(Ask::Settle {
-            node: Node::File(creation.file),
+            node: creation.node,
         }),
         WriterState::TakingBack { creation, .. } => Ok(Ask::TakeBack {
             client,
-            node: Node::File(creation.file),
+            node: creation.node,
         }),
     }
 }
 
-// The store of a file.
-fn store_of(file: FileId) -> PlaceNo
-    ensures { result ≡ home_of (Node.File file) }
+// The place that puts the node of a call.
+fn put_place(put_index: u32, call: &Call) -> PlaceNo
+    requires writing { IsTrue (is_writing call.now) }
+    requires small { put_index < 64 }
+    ensures { (client : _) → result ≡ place_of (first_ask client put_index call.now) }
 {
-    PlaceNo(64 + (file.0 % 64) as u32)
+    match call {
+        Call::Create { .. } => PlaceNo(64 + put_index),
+        Call::Mkdir { .. } => PlaceNo(put_index),
+        Call::Lookup { .. } | Call::List { .. } => unreachable!(),
+    }
+}
+
+// The place of a node's record: the shard of a directory, the store of a file.
+fn place_of_node(node: Node) -> PlaceNo
+    ensures { result ≡ home_of node }
+{
+    match node {
+        Node::Dir(dir) => PlaceNo((dir.0 % 64) as u32),
+        Node::File(file) => PlaceNo(64 + (file.0 % 64) as u32),
+    }
 }
 
 // The place of the ask of a state.
-fn place_in(client: Client, put_index: u32, state: &WriterState) -> PlaceNo
+fn place_in(put_index: u32, state: &WriterState) -> PlaceNo
     requires going { IsTrue (is_going (phase_of state.now)) }
     requires writing { IsTrue (writes state.now) }
     requires small { put_index < 64 }
-    ensures { result ≡ place_of (ask_of client put_index (phase_of state.now)) }
+    ensures { (client : _) → result ≡ place_of (ask_of client put_index (phase_of state.now)) }
 {
     match state {
-        WriterState::Asking(_) => PlaceNo(64 + put_index),
+        WriterState::Asking(call) => put_place(put_index, call),
         WriterState::Finished(_) => unreachable!(),
         WriterState::Inserting { creation, .. } => PlaceNo((creation.dir.0 % 64) as u32),
         WriterState::Settling { creation, .. } | WriterState::TakingBack { creation, .. } => {
-            store_of(creation.file)
+            place_of_node(creation.node)
         }
     }
 }
@@ -114,32 +148,35 @@ fn after_put(call: &Call, step: Stamp, answer: &Answer) -> Result<WriterState, N
     ensures state { IfOk result (λ state. phase_of state ≡ heard_as (Asking call.now) step answer.now) }
     ensures writing { IfOk result (λ state. IsTrue (writes state)) }
 {
-    match (call, answer) {
-        (Call::Create { dir, name }, Answer::New(Node::File(file))) => {
-            let creation = Creation {
-                dir: *dir,
-                name: name.copy()?,
-                file: *file,
-                first: step,
-            };
-            Ok(WriterState::Inserting {
-                creation,
-                ts: step.number,
-            })
-        }
+    let (dir, name, node) = match (call, answer) {
+        (Call::Create { dir, name }, Answer::New(node @ Node::File(_))) => (*dir, name, *node),
+        (Call::Mkdir { dir, name }, Answer::New(node @ Node::Dir(_))) => (*dir, name, *node),
         _ => unreachable!(),
-    }
+    };
+    let name = name.copy()?;
+    let creation = Creation {
+        dir,
+        name,
+        node,
+        first: step,
+    };
+    Ok(WriterState::Inserting {
+        creation,
+        ts: step.number,
+    })
 }
 
 impl Creation {
-    // The create.
+    // The call: a create makes a file, and a mkdir a directory.
     fn call(&self) -> Result<Call, NoMemory>
-        ensures { IfOk result (λ call. call ≡ Call.Create self.now.dir self.now.name) }
+        ensures { IfOk result (λ call. call ≡ maker self.now.dir self.now.name self.now.node) }
     {
-        Ok(Call::Create {
-            dir: self.dir,
-            name: self.name.copy()?,
-        })
+        let dir = self.dir;
+        let name = self.name.copy()?;
+        match self.node {
+            Node::File(_) => Ok(Call::Create { dir, name }),
+            Node::Dir(_) => Ok(Call::Mkdir { dir, name }),
+        }
     }
 
     // A copy.
@@ -149,14 +186,14 @@ impl Creation {
         Ok(Creation {
             dir: self.dir,
             name: self.name.copy()?,
-            file: self.file,
+            node: self.node,
             first: self.first,
         })
     }
 
-    // The create, ended without a move: its reply holds before the step `at`.
+    // The call, ended without a move: its reply holds before the step `at`.
     fn refused(&self, errno: Errno, at: Stamp, last: Stamp) -> Result<CallDone, NoMemory>
-        ensures { IfOk result (λ done. Finished done ≡ replied (Call.Create self.now.dir self.now.name) self.now.first at last (Reply.Refused errno)) }
+        ensures { IfOk result (λ done. Finished done ≡ replied (maker self.now.dir self.now.name self.now.node) self.now.first at last (Reply.Refused errno)) }
     {
         Ok(CallDone {
             call: self.call()?,
@@ -169,9 +206,9 @@ impl Creation {
         })
     }
 
-    // The create, ended with its move at the step `at`.
+    // The call, ended with its move at the step `at`.
     fn moved(&self, ts: Ts, at: Stamp, last: Stamp) -> Result<CallDone, NoMemory>
-        ensures { IfOk result (λ done. Finished done ≡ moved_phase self.now.dir self.now.name self.now.file ts self.now.first at last) }
+        ensures { IfOk result (λ done. Finished done ≡ moved_phase self.now.dir self.now.name self.now.node ts self.now.first at last) }
     {
         Ok(CallDone {
             call: self.call()?,
@@ -180,7 +217,7 @@ impl Creation {
             last,
             reply: Reply::Moved,
             ts,
-            made: Some(Node::File(self.file)),
+            made: Some(self.node),
         })
     }
 }
@@ -193,7 +230,7 @@ fn after_insert(
     answer: &Answer,
 ) -> Result<WriterState, NoMemory>
     requires { IsTrue (answers_insert answer.now) }
-    ensures state { IfOk result (λ state. phase_of state ≡ heard_insert creation.now.dir creation.now.name creation.now.file ts creation.now.first step answer.now) }
+    ensures state { IfOk result (λ state. phase_of state ≡ heard_insert creation.now.dir creation.now.name creation.now.node ts creation.now.first step answer.now) }
     ensures writing { IfOk result (λ state. IsTrue (writes state)) }
 {
     let creation = creation.copy()?;
@@ -247,7 +284,7 @@ impl Machine for Writer {
     ghost phase = { λ writer. phase_of writer.state };
 
     fn next_place(&self) -> PlaceNo {
-        place_in(self.client, self.put_index, &self.state)
+        place_in(self.put_index, &self.state)
     }
 
     fn ask(&self, _last: Ts) -> Result<Ask, NoMemory> {

@@ -46,7 +46,7 @@ fn refuses_each(
 }
 
 #[test]
-fn a_first_line_that_is_not_places_1_1(rt: HostRuntime) -> Result<(), Fail> {
+fn a_first_line_of_no_counts_of_places(rt: HostRuntime) -> Result<(), Fail> {
     let lines = [
         "",
         "places",
@@ -58,9 +58,10 @@ fn a_first_line_that_is_not_places_1_1(rt: HostRuntime) -> Result<(), Fail> {
         "places 1 1\r",
         "places 0 1",
         "places 1 0",
-        "places 2 1",
-        "places 1 2",
         "places 65 1",
+        "places 1 65",
+        "places 4294967297 1",
+        "places 18446744073709551617 1",
         "places 01 1",
         "places +1 1",
         "Places 1 1",
@@ -81,7 +82,8 @@ fn a_line_of_another_word(rt: HostRuntime) -> Result<(), Fail> {
         "client",
         "client 1",
         "clients 1 list /",
-        "client 1 mkdir /a",
+        "client 1 rmdir /a",
+        "client 1 Mkdir /a",
         "client 1 stat /a",
         "client 1 unlink /a",
         "client 1 LIST /",
@@ -119,6 +121,12 @@ fn a_path_of_no_name(rt: HostRuntime) -> Result<(), Fail> {
         "client 1 create /a/b",
         "client 1 create /a/",
         "client 1 create //a",
+        "client 1 mkdir",
+        "client 1 mkdir /",
+        "client 1 mkdir a",
+        "client 1 mkdir /..",
+        "client 1 mkdir /a/b",
+        "client 1 mkdir /a/",
         "client 1 create /a b",
         "client 1 create /a ",
         "client 1 create  /a",
@@ -166,7 +174,7 @@ fn the_first_of_several_faults(rt: HostRuntime) -> Result<(), Fail> {
         ("places 1 1\nclient 1 list /\nturns 1\nclient 1 list /\n", 4),
         ("places 1 1\nclient 1 list /\nturns 1\nclient 2 list /", 4),
         ("places 1 1\nclient 33 list /\nturns 2\n", 2),
-        ("places 2 1\nclient 33 list /\n", 1),
+        ("places 65 1\nclient 33 list /\n", 1),
         ("places 1 1\nclient 1 list /\nturns 2\nturns 3", 3),
     ];
     for (script, line) in cases {
@@ -230,9 +238,9 @@ fn a_byte_too_many(rt: HostRuntime) -> Result<(), Fail> {
 #[test]
 fn the_cause_that_comes_first(rt: HostRuntime) -> Result<(), Fail> {
     let cases = [
-        ("places 2 1\n", 2, (Status::ReadFault, 0)),
+        ("places 0 1\n", 2, (Status::ReadFault, 0)),
         ("places 1 1\n", 2, (Status::ReadFault, 0)),
-        ("places 2 1\n", 0, refused(1)),
+        ("places 0 1\n", 0, refused(1)),
         ("places 1 1\n", 0, (Status::WriteFault, 0)),
     ];
     for (script, fail, want) in cases {

@@ -1,9 +1,8 @@
 use Rattle.std.proofs.Common.{◌≡◌, ℕ, List, Result, Ok, Err, subst, sym, reverse}
 use Rattle.std.specs.Result.{IfOk}
-use Rattle.cfs_ids.specs.declared.call.Call.{Call}
 use Rattle.cfs_rules.specs.Histories.{history_of}
 use Rattle.cfs_rules.specs.Members.{HasCallers, IsRising}
-use Rattle.cfs_rules.specs.Worlds.{opening, run_of}
+use Rattle.cfs_rules.specs.Worlds.{Setup, IsSetup, played}
 use Rattle.cfs_core.specs.Finished.{IsRunOf}
 use Rattle.cfs_law_reply.specs.Judged.{IsJudged}
 use Rattle.cfs_law_reply.proofs.Judging.{of-run}
@@ -16,6 +15,6 @@ carried (Err e) x P is p = _
 
 pub returns : goal.returns
 returns c = carried c.of.result (history_of (reverse c.args.run.now.entries) c.args.run.now.calls.items)
-    (λ items. (calls : ℕ → List Call) (turns members : List ℕ) → IsRising members → HasCallers calls members → IsRunOf members (run_of turns (opening calls)) c.args.run.now → IsJudged members (run_of turns (opening calls)) items)
+    (λ items. (setup : Setup) → IsSetup setup → (turns members : List ℕ) → IsRising members → HasCallers setup.calls members → IsRunOf members (played setup turns) c.args.run.now → IsJudged members (played setup turns) items)
     (rw c.as_slice.ensures.value at c.of.ensures)
-    (λ calls turns members rising callers of_world. of-run calls turns members c.args.run.now rising callers of_world)
+    (λ setup good turns members rising callers of_world. of-run setup good turns members rising callers c.args.run.now of_world)

@@ -1,11 +1,13 @@
-use Rattle.std.proofs.Common.{◌≡◌, ◌+◌, ◌<◌, ◌^◌, length}
-use Rattle.std.specs.FinMap.{entries}
-use Rattle.cfs_ids.specs.Maps.{how_many}
-use Rattle.cfs_rules.specs.Trees.{is_left, is_named}
-use Rattle.cfs_shard.specs.Shards as shards
-use Rattle.cfs_store.specs.Stores as stores
+use Rattle.std.proofs.Common.{drop, ◌≡◌, ◌+◌, ◌*◌, ◌≤◌, length, map}
+use Rattle.cfs_rules.specs.Several.{contents_in}
 use Rattle.cfs_desk.specs.Rosters as rosters
+use Rattle.cfs_view.specs.PlaceViews.{shard_view, store_view}
+use Rattle.cfs_view.specs.Shown.{names_in}
+use Rattle.cfs_view.specs.Tallies.{stray_dirs, stray_files}
 use Rattle.cfs_view.proofs.counts.count_strays.Given as goal
 
-abbrev pub invariant-loop-file : goal.invariant-loop-file
-invariant-loop-file l = (l.count + how_many (λ e. is_left (rosters.contents_of l.places.roster) (is_named (shards.contents_of l.places.shard) e.0) e.1.owner) l.file-iterator ≡ how_many (λ e. is_left (rosters.contents_of l.places.roster) (is_named (shards.contents_of l.places.shard) e.0) e.1.owner) (entries (stores.contents_of l.places.store))) × (l.count + length l.file-iterator < 2 ^ 63)
+abbrev pub invariant-loop-shard : goal.invariant-loop-shard
+invariant-loop-shard l = (l.count + stray_dirs (rosters.contents_of l.places.roster) (names_in (contents_in (map shard_view l.places.shards.items))) (contents_in (map shard_view (drop l.shard-index l.places.shards.items))) ≡ stray_dirs (rosters.contents_of l.places.roster) (names_in (contents_in (map shard_view l.places.shards.items))) (contents_in (map shard_view l.places.shards.items))) × (l.count + 1048577 * length (drop l.shard-index l.places.shards.items) ≤ 1048577 * 64)
+
+abbrev pub invariant-loop-store : goal.invariant-loop-store
+invariant-loop-store l = (l.count + stray_files (rosters.contents_of l.places.roster) (names_in (contents_in (map shard_view l.places.shards.items))) (contents_in (map store_view (drop l.store-index l.places.stores.items))) ≡ stray_dirs (rosters.contents_of l.places.roster) (names_in (contents_in (map shard_view l.places.shards.items))) (contents_in (map shard_view l.places.shards.items)) + stray_files (rosters.contents_of l.places.roster) (names_in (contents_in (map shard_view l.places.shards.items))) (contents_in (map store_view l.places.stores.items))) × (l.count + 1048577 * length (drop l.store-index l.places.stores.items) ≤ 1048577 * 128)

@@ -1,7 +1,12 @@
-use Rattle.cfs_shard.specs.Shards as shards
-use Rattle.cfs_store.specs.Stores as stores
-use Rattle.cfs_view.proofs.Shown.{tree-shown}
+use Rattle.std.proofs.Common.{◌≡◌}
+use Rattle.cfs_maps.specs.NodeSets.{has_node}
+use Rattle.cfs_rules.specs.Several.{contents_in}
+use Rattle.cfs_view.specs.Views.{shards_of, stores_of}
+use Rattle.cfs_view.proofs.WholeTree.{tree_whole}
 use Rattle.cfs_view.proofs.tree.tree_of.Goals as goal
 
 pub returns : goal.returns
-returns c = tree-shown (shards.contents_of c.args.places.now.shard) (stores.contents_of c.args.places.now.store) c.new-namespace.result c.add_dirs.new.namespace c.add_files.new.namespace c.new-namespace.ensures (rw c.shard.ensures at c.in_ok-add_dirs.ensures) (rw (c.shard-2.ensures, c.store.ensures) at c.in_ok-add_files.ensures)
+returns c =
+    let p = c.args.places.now in
+    tree_whole (contents_in (shards_of p)) p.sharded.own (has_node c.in_ok-named.named) (rw c.shards.ensures at c.in_ok-named.ensures) (contents_in (stores_of p)) p.stored.own
+    c.new-namespace.result c.add_all_dirs.new.namespace c.add_all_files.new.namespace c.new-namespace.ensures (rw c.shards-2.ensures at c.in_ok-add_all_dirs.ensures) (rw c.stores.ensures at c.in_ok-add_all_files.ensures)

@@ -1,17 +1,14 @@
 use Rattle.std.proofs.Common.{ℕ, reverse, ap, ◌∙◌, subst, sym, refl}
 use Rattle.cfs_rules.specs.Worlds.{Progress}
 use Rattle.cfs_view.specs.Views.{held}
-use Rattle.cfs_core.specs.Counted.{IsCounted}
 use Rattle.cfs_core.specs.Weave.{world_from}
 use Rattle.cfs_core.proofs.Members.{calls-by-number}
+use Rattle.cfs_core.proofs.Settled.{sound-settled}
 use Rattle.cfs_core.proofs.Shown.{members_of-shown, progress_in-shown}
 use Rattle.cfs_core.proofs.service.Core.finish.Goals as goal
 
 pub invariant_of-self : goal.invariant_of-self
-invariant_of-self c = record {
-  counted = subst (λ (cs : ℕ → Progress). IsCounted (reverse c.args.self.order.items) (held c.args.self.places) cs)
-      (sym (progress_in-shown c.calls_of_all.new.clients.items c.args.self.clients.items c.calls_of_all.ensures.same)) c.args.self.counted;
-}
+invariant_of-self c = record { sound = sound-settled c.args.self.places c.calls_of_all.new.clients.items c.args.self.clients.items c.args.self.order.items c.calls_of_all.ensures.same c.calls_of_all.ensures.counts c.args.self.sound }
 
 pub returns-in_default-clause-back : goal.returns-in_default-clause-back
 returns-in_default-clause-back c = ap (λ (cs : ℕ → Progress). world_from (reverse c.args.self.order.items) (held c.args.self.places) cs)
@@ -21,10 +18,7 @@ pub returns-in_default-clause-members : goal.returns-in_default-clause-members
 returns-in_default-clause-members c = members_of-shown c.calls_of_all.new.clients.items c.args.self.clients.items c.calls_of_all.ensures.same
 
 pub invariant_of-self-2 : goal.invariant_of-self-2
-invariant_of-self-2 c = record {
-  counted = subst (λ (cs : ℕ → Progress). IsCounted (reverse c.args.self.order.items) (held c.args.self.places) cs)
-      (sym (progress_in-shown c.calls_of_all.new.clients.items c.args.self.clients.items c.calls_of_all.ensures.same)) c.args.self.counted;
-}
+invariant_of-self-2 c = record { sound = sound-settled c.args.self.places c.calls_of_all.new.clients.items c.args.self.clients.items c.args.self.order.items c.calls_of_all.ensures.same c.calls_of_all.ensures.counts c.args.self.sound }
 
 pub returns-in_default-entries_of-clause-back : goal.returns-in_default-entries_of-clause-back
 returns-in_default-entries_of-clause-back c = ap (λ (cs : ℕ → Progress). world_from (reverse c.args.self.order.items) (held c.args.self.places) cs)

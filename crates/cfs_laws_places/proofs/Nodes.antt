@@ -1,0 +1,125 @@
+-- Nodes by their names, and the directories that no row lies in.
+use Rattle.std.proofs.Common.{◌≡◌, ◌≢◌, ℕ, List, [], ◌∷◌, Bool, true, false, cond, refl, sym, ◌∙◌, ap, arith, ◌⊎◌, inl, inr}
+use Rattle.std.specs.Prelude.{◌||◌, ◌&&◌, ◌==◌, Option, Some, None}
+use Rattle.std.proofs.lemmas.Bool.Decides.{nat_tests}
+use Rattle.std.specs.List.{list_any}
+use Rattle.std.specs.Ordering.{nat_cmp, is_eq}
+use Rattle.std.proofs.lemmas.Cmp.{tied_itself}
+use Rattle.std.specs.Cmp.Lexicographic.{slice_cmp, nat_list_cmp_total}
+use Rattle.std.specs.FinMap.{get, entries, find, get-entries}
+use Rattle.cfs_ids.specs.declared.ids.DirId.{DirId}
+use Rattle.cfs_ids.specs.declared.ids.Client.{Client}
+use Rattle.cfs_ids.specs.declared.ids.Node.{Node}
+use Rattle.cfs_ids.specs.declared.ids.Node.TheVariants.{Dir, File}
+use Rattle.cfs_ids.specs.Maps.{lies_in, how_many}
+use Rattle.cfs_ids.specs.Namespace.{is_node, is_dir}
+use Rattle.cfs_steps.specs.declared.contents.Row.{Row}
+use Rattle.cfs_rules.specs.Places.{Shard, Store}
+use Rattle.cfs_rules.specs.Worlds.{client_of}
+use Rattle.cfs_rules.specs.Trees.{is_shown}
+use Rattle.cfs_laws_places.proofs.Invariant.{owner_at, Owns, PlacesHold}
+
+-- ---- a name stands for one node
+pub names_true : (x y : Node) → is_node x y ≡ true → x ≡ y
+names_true (File f) (File g) h = let same : f.0 ≡ g.0 = grind (arith, nat_tests) in ap (λ n. File (record { 0 = n })) same
+names_true (File f) (Dir d) h = cc
+names_true (Dir d) (File f) h = cc
+names_true (Dir d) (Dir e) h = let same : d.0 ≡ e.0 = grind (arith, nat_tests) in ap (λ n. Dir (record { 0 = n })) same
+
+pub names_same : (x : Node) → is_node x x ≡ true
+names_same (File f) = grind (arith, nat_tests)
+names_same (Dir d) = grind (arith, nat_tests)
+
+pub names_other : (x y : Node) → x ≢ y → is_node x y ≡ false
+names_other x y differ = by_test (is_node x y) refl
+  where
+    by_test : (b : Bool) → is_node x y ≡ b → b ≡ false
+    by_test true e = absurd (differ (names_true x y e))
+    by_test false e = refl
+
+-- a node is another one, or it is not
+pub same_or_not : (x y : Node) → (x ≡ y) ⊎ (x ≢ y)
+same_or_not x y = by_test (is_node x y) refl
+  where
+    by_test : (b : Bool) → is_node x y ≡ b → (x ≡ y) ⊎ (x ≢ y)
+    by_test true e = inl (names_true x y e)
+    by_test false e = inr (λ same. let t = names_same x in let f : is_node x x ≡ false = ap (is_node x) same ∙ e in cc)
+
+-- two owners have two nodes
+pub two_nodes : (shard : Shard) (store : Store) (i c : ℕ) (x y : Node) (a b : Bool) → Owns shard store i x a → Owns shard store c y b → i ≢ c → x ≢ y
+two_nodes shard store i c x y a b h k differ same =
+    let again : owner_at shard store y ≡ Some (Some (client_of i)) = ap (owner_at shard store) (sym same) ∙ h.owner in
+    let other = k.owner in
+    let one : client_of i ≡ client_of c = cc in
+    differ (ap (λ (z : Client). z.0) one)
+
+-- ---- a directory that is put and not named
+pub unshown : (shard : Shard) (store : Store) (lasts : ℕ → ℕ) (i : ℕ) (d : DirId) → PlacesHold shard store lasts → Owns shard store i (Dir d) false → is_shown shard d.0 ≡ false
+unshown shard store lasts i d h owns = by_test (d.0 == 0) refl owns.name
+  where
+    by_test : (b : Bool) → (d.0 == 0) ≡ b → {p : Bool} → p ≡ false → (b || p) ≡ false
+    by_test true e n =
+        let root : d.0 ≡ 0 = grind (arith, nat_tests) in
+        let there = h.root in
+        let own : owner_at shard store (Dir (record { 0 = 0 })) ≡ Some (Some (client_of i)) = ap (λ k. owner_at shard store (Dir (record { 0 = k }))) (sym root) ∙ owns.owner in
+        cc
+    by_test false e n = n
+
+-- ---- no rows lie in a directory that isn't shown
+pub no_rows_in : (shard : Shard) (store : Store) (lasts : ℕ → ℕ) (d : ℕ) → PlacesHold shard store lasts → is_shown shard d ≡ false → (name : List ℕ) → get shard.rows (d ∷ name) ≡ None
+no_rows_in shard store lasts d h hidden name = by_row (get shard.rows (d ∷ name)) refl
+  where
+    by_row : (o : Option Row) → get shard.rows (d ∷ name) ≡ o → o ≡ None
+    by_row None e = refl
+    by_row (Some row) e = let shown = h.housed d name row e in cc
+
+-- an entry whose key passes is found
+record Found (p : List ℕ → Bool) (es : List (List ℕ × Row)) : Type 0 where
+  key : List ℕ
+  row : Row
+  there : find (slice_cmp nat_cmp) key es ≡ Some row
+  passes : p key ≡ true
+
+found : (p : List ℕ → Bool) (es : List (List ℕ × Row)) → list_any (λ e. p e.0) es ≡ true → Found p es
+found p [] h = cc
+found p (x ∷ es) h = by_test (p x.0) refl h (found p es)
+  where
+    later : Found p es → Found p (x ∷ es)
+    later f = record { key = f.key; row = cond (is_eq (slice_cmp nat_cmp f.key x.0)) x.1 f.row; there = rw f.there (either (is_eq (slice_cmp nat_cmp f.key x.0)) x.1 f.row); passes = f.passes }
+      where
+        either : (b : Bool) (u v : Row) → cond b (Some u) (Some v) ≡ Some (cond b u v)
+        either true u v = refl
+        either false u v = refl
+
+    by_test : (b : Bool) → p x.0 ≡ b → (b || list_any (λ e. p e.0) es) ≡ true → (list_any (λ e. p e.0) es ≡ true → Found p es) → Found p (x ∷ es)
+    by_test true e h rest = record { key = x.0; row = x.1; there = rw (tied_itself nat_list_cmp_total x.0) refl; passes = e }
+    by_test false e h rest = later (rest h)
+
+none_pass : {X : Type 0} (p q : X → Bool) (es : List X) → list_any p es ≡ false → ((x : X) → p x ≡ false → q x ≡ false) → how_many q es ≡ 0
+none_pass p q [] h below = refl
+none_pass p q (x ∷ es) h below = grind (arith, none_pass p q es, below x)
+
+pub none_in : (shard : Shard) (d : ℕ) → ((name : List ℕ) → get shard.rows (d ∷ name) ≡ None) → list_any (λ e. lies_in d e.0) (entries shard.rows) ≡ false
+none_in shard d none = by_test (list_any (λ e. lies_in d e.0) (entries shard.rows)) refl
+  where
+    by_key : (k : List ℕ) (row : Row) → find (slice_cmp nat_cmp) k (entries shard.rows) ≡ Some row → lies_in d k ≡ true → ⊥
+    by_key [] row e h = cc
+    by_key (x ∷ name) row e h =
+        let same : x ≡ d = grind (arith, nat_tests) in
+        let gone = none name in
+        let there : get shard.rows (d ∷ name) ≡ Some row = ap (λ k. get shard.rows (k ∷ name)) (sym same) ∙ get-entries shard.rows (x ∷ name) ∙ e in
+        cc
+
+    by_test : (b : Bool) → list_any (λ e. lies_in d e.0) (entries shard.rows) ≡ b → b ≡ false
+    by_test true e = let f = found (lies_in d) (entries shard.rows) e in absurd (by_key f.key f.row f.there f.passes)
+    by_test false e = refl
+
+and_false : (a b : Bool) → a ≡ false → (a && b) ≡ false
+and_false a b e = rw e refl
+
+-- so both counts of it are 0
+pub no_children : (shard : Shard) (d : ℕ) → ((name : List ℕ) → get shard.rows (d ∷ name) ≡ None) → how_many (λ e. lies_in d e.0) (entries shard.rows) ≡ 0
+no_children shard d none = none_pass (λ e. lies_in d e.0) (λ e. lies_in d e.0) (entries shard.rows) (none_in shard d none) (λ x e. e)
+
+pub no_subdirs : (shard : Shard) (d : ℕ) → ((name : List ℕ) → get shard.rows (d ∷ name) ≡ None) → how_many (λ e. lies_in d e.0 && is_dir e.1.node) (entries shard.rows) ≡ 0
+no_subdirs shard d none = none_pass (λ e. lies_in d e.0) (λ e. lies_in d e.0 && is_dir e.1.node) (entries shard.rows) (none_in shard d none) (λ x e. and_false (lies_in d x.0) (is_dir x.1.node) e)

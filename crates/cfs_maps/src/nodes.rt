@@ -1,0 +1,77 @@
+//! A set of nodes.
+ghost use Rattle.std.specs.Prelude.{◌≡◌, ◌==◌, OnOk, ◌||◌, false, is_some};
+ghost use Rattle.std.specs.FinMap as map;
+ghost use Rattle.cfs_ids.specs.Namespace.{is_node};
+
+use crate::numbers::NumberMap;
+use cfs_ids::{NoMemory, Node};
+use std::alloc::Global;
+
+/// Files and directories by their numbers.
+#[derive(Drop)]
+pub struct NodeSet {
+    files: NumberMap<()>,
+    dirs: NumberMap<()>,
+}
+
+// Sets the number in the map.
+fn enter(numbers: &mut NumberMap<()>, number: u64) -> Result<(), NoMemory>
+    ensures { OnOk result ((k : _) → is_some (map.get numbers.new k) ≡ (is_some (map.get numbers.old k) || number == k)) }
+{
+    match numbers.set(number, ()) {
+        Ok(_) => Ok(()),
+        Err(_) => Err(NoMemory),
+    }
+}
+
+impl NodeSet {
+    ghost use Rattle.cfs_maps.specs.NodeSets.{has_node};
+
+    /// No nodes.
+    pub fn new(alloc: Global) -> NodeSet
+        ensures { (x : _) → has_node result x ≡ false }
+    {
+        NodeSet {
+            files: NumberMap::new(alloc),
+            dirs: NumberMap::new(alloc),
+        }
+    }
+
+    /// Adds the node. The Err is want of memory.
+    pub fn add(&mut self, node: Node) -> Result<(), NoMemory>
+        ensures { OnOk result ((x : _) → has_node self.new x ≡ (has_node self.old x || is_node x node)) }
+    {
+        match node {
+            Node::File(file) => enter(&mut self.files, file.0),
+            Node::Dir(dir) => enter(&mut self.dirs, dir.0),
+        }
+    }
+
+    /// Whether the node is in the set.
+    pub fn has(&self, node: Node) -> bool
+        ensures { result ≡ has_node self.now node }
+    {
+        match node {
+            Node::File(file) => self.files.get(file.0).is_some(),
+            Node::Dir(dir) => self.dirs.get(dir.0).is_some(),
+        }
+    }
+}
+
+#[cfg(test)]
+mod tests {
+    use super::*;
+    use cfs_ids::{DirId, FileId};
+
+    #[test]
+    fn a_file_and_a_directory_of_one_number_differ(rt: HostRuntime) -> Result<(), NoMemory> {
+        let mut nodes = NodeSet::new(rt.alloc());
+        nodes.add(Node::File(FileId(64)))?;
+        nodes.add(Node::Dir(DirId(65)))?;
+        assert!(rt; nodes.has(Node::File(FileId(64))));
+        assert!(rt; !nodes.has(Node::Dir(DirId(64))));
+        assert!(rt; nodes.has(Node::Dir(DirId(65))));
+        assert!(rt; !nodes.has(Node::File(FileId(65))));
+        Ok(())
+    }
+}

@@ -1,0 +1,6 @@
+pub mod Logs
+pub mod Views
+pub mod Rule
+pub mod Passes
+pub mod Lent
+pub mod Numbers

@@ -1,0 +1,51 @@
+-- The maps of several places as one, and which of its keys lie where.
+use Rattle.std.specs.Prelude.{◌≡◌, ℕ, suc, zero, ◌%◌, List, [], ◌∷◌, map, flat_map, Option, Some, None}
+use Rattle.std.specs.declared.cmp.Ordering.{Ordering}
+use Rattle.std.specs.FinMap.{FinMap, get, entries, from_entries}
+use Rattle.cfs_rules.specs.Places.{Shard, Store}
+
+-- the shard of a row's key, and of a directory, and the store of a file, by their indices
+abbrev pub home_of_row : List ℕ → ℕ
+home_of_row [] = 0
+home_of_row (d ∷ name) = d % 64
+
+abbrev pub home_of_number : ℕ → ℕ
+home_of_number n = n % 64
+
+module _ {K X : Type 0} {R : K → K → Ordering} where
+  -- all entries of these maps in one map
+  unfoldable pub gathered : List (FinMap R X) → FinMap R X
+  gathered maps = from_entries (flat_map entries maps)
+
+  -- each key of the map lies at the index
+  abbrev pub LieAt : (K → ℕ) → ℕ → FinMap R X → Type 0
+  LieAt home index m = (k : K) (x : X) → get m k ≡ Some x → home k ≡ index
+
+  -- the keys of each map lie at the map's own index, the first of which is this
+  abbrev pub LieFrom : (K → ℕ) → ℕ → List (FinMap R X) → Type 0
+  LieFrom home index [] = Unit {0}
+  LieFrom home index (m ∷ ms) = LieAt home index m × LieFrom home (suc index) ms
+
+-- the shards as one, and the stores
+abbrev pub all_shards : List Shard → Shard
+all_shards shards = record { rows = gathered (map (λ (s : Shard). s.rows) shards); recs = gathered (map (λ (s : Shard). s.recs) shards) }
+
+abbrev pub all_stores : List Store → Store
+all_stores stores = gathered stores
+
+-- a shard has the rows and the records of its own directories, and no others
+pub record IsOwnShard (index : ℕ) (s : Shard) : Type 0 where
+  pub rows : LieAt home_of_row index s.rows
+  pub recs : LieAt home_of_number index s.recs
+
+-- a store has the records of its own files, and no others
+abbrev pub IsOwnStore : ℕ → Store → Type 0
+IsOwnStore index s = LieAt home_of_number index s
+
+abbrev pub AreOwnShards : ℕ → List Shard → Type 0
+AreOwnShards index [] = Unit {0}
+AreOwnShards index (s ∷ shards) = IsOwnShard index s × AreOwnShards (suc index) shards
+
+abbrev pub AreOwnStores : ℕ → List Store → Type 0
+AreOwnStores index [] = Unit {0}
+AreOwnStores index (s ∷ stores) = IsOwnStore index s × AreOwnStores (suc index) stores

@@ -1,0 +1,60 @@
+-- A store gets one more record at most with each step.
+use Rattle.std.proofs.Common.{◌≡◌, ℕ, ◌+◌, ◌-◌, ◌≤◌, Bool, true, false, cond, arith}
+use Rattle.std.specs.Prelude.{if◌then◌else◌, ◌==◌, Option, Some, None}
+use Rattle.std.specs.Cmp.{nat_cmp_total}
+use Rattle.std.specs.FinMap.{get, insert, remove, len, contains_key, len-insert, len-remove}
+use Rattle.cfs_ids.specs.declared.ids.FileId.{FileId}
+use Rattle.cfs_ids.specs.declared.ids.Client.{Client}
+use Rattle.cfs_ids.specs.declared.ids.Stamp.{Stamp}
+use Rattle.cfs_ids.specs.declared.ids.Node.TheVariants.{Dir, File}
+use Rattle.cfs_steps.specs.declared.ask.Ask.{Ask}
+use Rattle.cfs_steps.specs.declared.ask.Ask.TheVariants.{Read, List, Insert, Put, PutDir, Settle, TakeBack, End}
+use Rattle.cfs_steps.specs.declared.answer.Answer.TheVariants.{Done, None as NoneAnswer}
+use Rattle.cfs_steps.specs.declared.contents.FileRec.{FileRec}
+use Rattle.cfs_rules.specs.Places.{Store, unmoved, made_at, new_file, settled, settle_owner, taken_back, take_owned, serve_store}
+
+one_more_at_most : (b : Bool) (n : ℕ) → cond b n (n + 1) ≤ n + 1
+one_more_at_most true n = omega arith
+one_more_at_most false n = omega arith
+
+one_less_at_least : (b : Bool) (n : ℕ) → cond b (n - 1) n ≤ n + 1
+one_less_at_least true n = omega arith
+one_less_at_least false n = omega arith
+
+set-few : (s : Store) (k : ℕ) (v : FileRec) → len (insert s k v) ≤ len s + 1
+set-few s k v = let e = len-insert nat_cmp_total s k v in let le = one_more_at_most (contains_key s k) (len s) in omega arith
+
+cut-few : (s : Store) (k : ℕ) → len (remove s k) ≤ len s + 1
+cut-few s k = let e = len-remove nat_cmp_total s k in let le = one_less_at_least (contains_key s k) (len s) in omega arith
+
+settle-few : (s : Store) (file : FileId) (o : Option FileRec) → len (settled s file o).contents ≤ len s + 1
+settle-few s file None = omega arith
+settle-few s file (Some r) = by_owner r.owner
+  where
+    by_owner : (o : Option Client) → len (settle_owner s file r o).contents ≤ len s + 1
+    by_owner None = omega arith
+    by_owner (Some c) = set-few s file.0 (record r { owner = None })
+
+take-few : (s : Store) (c : Client) (file : FileId) (o : Option FileRec) → len (taken_back s c file o).contents ≤ len s + 1
+take-few s c file None = omega arith
+take-few s c file (Some r) = by_owner r.owner
+  where
+    by_test : (b : Bool) → len (if b then unmoved (remove s file.0) (Done None) else unmoved s NoneAnswer).contents ≤ len s + 1
+    by_test true = cut-few s file.0
+    by_test false = omega arith
+
+    by_owner : (o : Option Client) → len (take_owned s c file o).contents ≤ len s + 1
+    by_owner None = omega arith
+    by_owner (Some owner) = by_test (owner.0 == c.0)
+
+pub serve-few : (s : Store) (at : Stamp) (ask : Ask) → len (serve_store s at ask).contents ≤ len s + 1
+serve-few s at (Read dir name) = omega arith
+serve-few s at (List dir) = omega arith
+serve-few s at (Insert client dir name node ts) = omega arith
+serve-few s at (Put client place home) = set-few s (made_at at) (new_file client home at.number)
+serve-few s at (PutDir client place dir name) = omega arith
+serve-few s at (Settle (Dir dir)) = omega arith
+serve-few s at (Settle (File file)) = settle-few s file (get s file.0)
+serve-few s at (TakeBack client (Dir dir)) = omega arith
+serve-few s at (TakeBack client (File file)) = take-few s client file (get s file.0)
+serve-few s at (End client) = omega arith

@@ -1,0 +1,9 @@
+use Rattle.std.proofs.Common.{drop, ◌≡◌, map}
+use Rattle.cfs_ids.specs.declared.ids.Node.TheVariants.{File}
+use Rattle.cfs_rules.specs.Several.{contents_in}
+use Rattle.cfs_view.specs.PlaceViews.{shard_view}
+use Rattle.cfs_view.specs.Shown.{names_in}
+use Rattle.cfs_view.proofs.counts.names_file.Given as goal
+
+abbrev pub invariant-loop-shard : goal.invariant-loop-shard
+invariant-loop-shard l = names_in (contents_in (map shard_view l.shards)) (File l.file) ≡ names_in (contents_in (map shard_view (drop l.shard-index l.shards))) (File l.file)
