@@ -14,8 +14,8 @@ use cfs_steps::{Ask, CallList, ClientCalls, Entry, Machine};
 use std::alloc::Global;
 
 /// A client: its current call, the calls that wait, and those that are done. After a step it keeps the entry until
-/// `settle` works it in; as contracts see it, the entry has been heard at once. Its puts go round the shards and the
-/// stores in one count: `puts` is how many nodes it has put, without that of a kept entry.
+/// `settle` works it in; as contracts see it, the entry has been heard at once. Its puts of
+/// files and directories are one count: `puts` is how many nodes it has put, without that of a kept entry.
 #[derive(Debug, Drop)]
 pub struct ClientState {
     client: Client,
@@ -104,7 +104,7 @@ fn hear_kept(machine: &mut CallMachine, kept: &KeptEntry) -> Result<(), NoMemory
 impl ClientState {
     ghost use Rattle.cfs_actor.specs.Clients.{client_of, counts_of, progress_of, is_settled};
 
-    /// The client with these calls to make, over 1 to 64 shards and as many stores.
+    /// The client with these calls to make, over 1 to 64 shards and 1 to 64 stores.
     pub fn new(
         alloc: Global,
         client: Client,

@@ -104,7 +104,7 @@ fn take_step(state: &mut ClientState, number: u64, answer: Answer) -> Result<(Pl
 }
 
 #[test]
-fn puts_go_round_the_places_in_one_count(rt: HostRuntime) -> Result<(), Fail> {
+fn puts_of_files_and_directories_are_one_count(rt: HostRuntime) -> Result<(), Fail> {
     let alloc = rt.alloc();
     let dir = DirId(0);
     let mut queue = CallQueue::new(alloc);

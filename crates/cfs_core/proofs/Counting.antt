@@ -11,7 +11,7 @@ use Rattle.cfs_steps.specs.Asks.{place_of}
 use Rattle.cfs_steps.specs.Phases.{Phase, Asking, Inserting, Settling, TakingBack, Finished, heard}
 use Rattle.cfs_rules.specs.Places.{is_full, number_after}
 use Rattle.cfs_rules.specs.Worlds.{Counts, AreCounts, Progress, client_of, next_ask, set_client, set_last, with_phase, after_entry, hears}
-use Rattle.cfs_view.specs.Held.{Held, Step, set_log, serve_in, full, log_full, has_place}
+use Rattle.cfs_view.specs.Held.{Held, Step, set_log, serve_in, serve_late, full, log_full, has_place}
 use Rattle.cfs_core.specs.Counted.{IsCounted, sum_below}
 use Rattle.cfs_core.specs.Parts.{turned, turn_part, full_asked, full_next}
 use Rattle.cfs_core.specs.Reach.{progress_there}
@@ -73,7 +73,11 @@ record OneMore (h : Held) (place number : ℕ) (step : Step) : Type 0 where
 one_more : (a b : Bool) (h : Held) (c number : ℕ) (ask : Ask) → OneMore h (place_of ask).0 number (serve_in a b h (ClientActor (client_of c)) ask number)
 one_more true b h c number ask = record { logs = refl; lasts = refl; numbered = refl }
 one_more false true h c number ask = record { logs = refl; lasts = refl; numbered = refl }
-one_more false false h c number ask = record { logs = refl; lasts = refl; numbered = refl }
+one_more false false h c number ask = late ((place_of ask).0 == 128)
+  where
+    late : (b : Bool) → OneMore h (place_of ask).0 number (serve_late b h (ClientActor (client_of c)) ask number)
+    late true = record { logs = refl; lasts = refl; numbered = refl }
+    late false = record { logs = refl; lasts = refl; numbered = refl }
 
 here_log : (logs : ℕ → List Entry) (place : ℕ) (log : List Entry) → set_log logs place log place ≡ log
 here_log logs place log = let same : (place == place) ≡ true = grind (arith, nat_tests) in rw same refl
@@ -81,18 +85,24 @@ here_log logs place log = let same : (place == place) ≡ true = grind (arith, n
 other_log : (logs : ℕ → List Entry) (place p : ℕ) (log : List Entry) → p ≢ place → set_log logs place log p ≡ logs p
 other_log logs place p log differ = let no : (p == place) ≡ false = grind (arith, nat_tests) in rw no refl
 
-place_low : (counts : Counts) (place : ℕ) → AreCounts counts → has_place counts place ≡ true → place < 130
-place_low counts place good h = by_tests (nat_lt place counts.shards) refl (nat_lt place (64 + counts.stores)) refl (place == 129) refl h
+pub low_there : (counts : Counts) (place : ℕ) → counts.shards ≤ 64 → counts.stores ≤ 64 → has_place counts place ≡ true → place < 130
+low_there counts place few few_stores h = by_shard (nat_lt place counts.shards) refl h
   where
-    by_tests : (a : Bool) → nat_lt place counts.shards ≡ a → (b : Bool) → nat_lt place (64 + counts.stores) ≡ b → (d : Bool) → (place == 129) ≡ d → (a || ((nat_le 64 place && b) || d)) ≡ true → place < 130
-    by_tests true t b u d v h = let few = good.shards.1 in let low : place < counts.shards = grind (arith, nat_tests) in omega arith
-    by_tests false t true u d v h = let few = good.stores.1 in let low : place < 64 + counts.stores = grind (arith, nat_tests) in omega arith
-    by_tests false t false u true v h = let is : place ≡ 129 = grind (arith, nat_tests) in omega arith
-    by_tests false t false u false v h = absurd (no (nat_le 64 place) h)
-      where
-        no : (x : Bool) → ((x && false) || false) ≡ true → ⊥
-        no true e = cc
-        no false e = cc
+    by_end : (b : Bool) → (place == 128) ≡ b → (c : Bool) → (place == 129) ≡ c → (b || c) ≡ true → place < 130
+    by_end true t c u h = let is : place ≡ 128 = grind (arith, nat_tests) in omega arith
+    by_end false t true u h = let is : place ≡ 129 = grind (arith, nat_tests) in omega arith
+    by_end false t false u h = cc
+
+    by_store : (b : Bool) → (nat_le 64 place && nat_lt place (64 + counts.stores)) ≡ b → (b || ((place == 128) || (place == 129))) ≡ true → place < 130
+    by_store true t h = let low : place < 64 + counts.stores = grind (arith, nat_tests) in omega (arith, low, few_stores)
+    by_store false t h = by_end (place == 128) refl (place == 129) refl h
+
+    by_shard : (b : Bool) → nat_lt place counts.shards ≡ b → (b || ((nat_le 64 place && nat_lt place (64 + counts.stores)) || ((place == 128) || (place == 129)))) ≡ true → place < 130
+    by_shard true t h = let low : place < counts.shards = grind (arith, nat_tests) in omega (arith, low, few)
+    by_shard false t h = by_store (nat_le 64 place && nat_lt place (64 + counts.stores)) refl h
+
+place_low : (counts : Counts) (place : ℕ) → AreCounts counts → has_place counts place ≡ true → place < 130
+place_low counts place good h = low_there counts place good.shards.1 good.stores.1 h
 
 step-counted : (order : List PlaceNo) (h : Held) (clients : ℕ → Progress) (c : ℕ) (p : Progress) (ask : Ask) (step : Step) → (clients c).last ≡ p.last → IsCounted order h clients → (place_of ask).0 < 130 → full h p.last ask ≡ false
     → OneMore h (place_of ask).0 (number_after p.last (h.lasts (place_of ask).0)) step

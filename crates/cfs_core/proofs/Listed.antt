@@ -1,5 +1,5 @@
 -- Each place answers what its table lists for what a client asks.
-use Rattle.std.proofs.Common.{◌≡◌, ℕ, ◌+◌, ◌%◌, ◌<◌, List, Bool, true, false, refl, arith}
+use Rattle.std.proofs.Common.{◌≡◌, ℕ, ◌+◌, ◌%◌, ◌<◌, List, Bool, true, false, refl, sym, subst, arith}
 use Rattle.std.specs.Prelude.{Option, Some, None, nat_lt, if◌then◌else◌, ◌==◌}
 use Rattle.std.specs.FinMap.{get, remove}
 use Rattle.std.proofs.lemmas.Nat.{mod_below}
@@ -14,13 +14,17 @@ use Rattle.cfs_ids.specs.declared.ids.Actor.{Actor}
 use Rattle.cfs_ids.specs.declared.call.Call.TheVariants.{Lookup, List as ListCall, Create, Mkdir}
 use Rattle.cfs_ids.specs.Maps.{row_key}
 use Rattle.cfs_steps.specs.declared.ask.Ask.{Ask}
+use Rattle.cfs_steps.specs.declared.ask.Ask.TheVariants.{Read, List as ListAsk, Insert}
 use Rattle.cfs_steps.specs.declared.contents.Row.{Row}
 use Rattle.cfs_steps.specs.declared.contents.DirRec.{DirRec}
 use Rattle.cfs_steps.specs.declared.contents.FileRec.{FileRec}
 use Rattle.cfs_steps.specs.declared.answer.Answer.TheVariants.{Done, None as NoneAnswer}
+use Rattle.cfs_steps.specs.Asks.{place_of}
 use Rattle.cfs_steps.specs.Phases.{Phase, Asking, Inserting, Settling, TakingBack, Finished, ask_of, answers, answers_first, answers_insert, answers_change, is_going}
-use Rattle.cfs_rules.specs.Places.{Shard, Store, Served, unmoved, with_recs, read_row, list_rows, inserted, settled, settle_owner, settled_dir, settle_dir_owner, taken_back, take_owned, taken_back_dir, take_owned_dir}
-use Rattle.cfs_rules.specs.Worlds.{Counts, AreCounts, IsCount, Progress, put_index, next_ask, asked_next}
+use Rattle.cfs_rules.specs.Places.{Shard, Store, Served, unmoved, with_recs, read_row, list_rows, inserted, settled, settle_owner, settled_dir, settle_dir_owner, taken_back, take_owned, taken_back_dir, take_owned_dir, number_after, serve_free, serve_shard}
+use Rattle.cfs_rules.specs.Facts.{Unlocked}
+use Rattle.cfs_rules.proofs.Locks.{serve_shard-unlocked}
+use Rattle.cfs_rules.specs.Worlds.{Counts, AreCounts, IsCount, Progress, stamped, put_index, next_ask, asked_next}
 use Rattle.cfs_actor.specs.States.{answers_now, is_going_now}
 use Rattle.cfs_view.specs.Held.{Held, serve}
 
@@ -97,30 +101,37 @@ index_above i = grind (arith, nat_tests)
 index_in_store : (i : ℕ) → i < 64 → nat_lt (64 + i) 128 ≡ true
 index_in_store i low = grind (arith, nat_tests, low)
 
-module _ (counts : Counts) (good : AreCounts counts) where
-  phase_listed : (h : Held) (actor : Actor) (c : Client) (last puts : ℕ) (phase : Phase) → is_going phase ≡ true → answers phase (serve h actor last (ask_of c (put_index counts c puts phase) phase)).entry.answer ≡ true
-  phase_listed h actor c last puts (Asking (Lookup dir name)) going = rw (in_shard dir.0) (read_listed dir name (get h.shard.rows (row_key dir name)))
-  phase_listed h actor c last puts (Asking (ListCall dir)) going = rw (in_shard dir.0) (list_listed h.shard dir (get h.shard.recs dir.0))
-  phase_listed h actor c last puts (Asking (Create dir name)) going =
+-- where no lock is set
+abbrev pub at_step : Held → ℕ → Ask → Stamp
+at_step h last ask = stamped (number_after last (h.lasts (place_of ask).0)) ask
+
+free_listed : (s : Shard) → Unlocked s → (at : Stamp) (ask : Ask) (phase : Phase) → answers phase (serve_free s at ask).answer ≡ true → answers phase (serve_shard s at ask).answer ≡ true
+free_listed s free at ask phase h = subst (λ (served : Served Shard). answers phase served.answer ≡ true) (sym (serve_shard-unlocked s free at ask)) h
+
+module _ (counts : Counts) (good : AreCounts counts) (h : Held) (free : Unlocked h.shard) where
+  phase_listed : (actor : Actor) (c : Client) (last puts : ℕ) (phase : Phase) → is_going phase ≡ true → answers phase (serve h actor last (ask_of c (put_index counts c puts phase) phase)).entry.answer ≡ true
+  phase_listed actor c last puts (Asking (Lookup dir name)) going = rw (in_shard dir.0) (free_listed h.shard free (at_step h last (Read dir name)) (Read dir name) (Asking (Lookup dir name)) (read_listed dir name (get h.shard.rows (row_key dir name))))
+  phase_listed actor c last puts (Asking (ListCall dir)) going = rw (in_shard dir.0) (free_listed h.shard free (at_step h last (ListAsk dir)) (ListAsk dir) (Asking (ListCall dir)) (list_listed h.shard dir (get h.shard.recs dir.0)))
+  phase_listed actor c last puts (Asking (Create dir name)) going =
       let low = low_index counts.stores (c.0 + puts) good.stores in
       let few = good.stores.1 in
       rw (index_above ((c.0 + puts) % counts.stores), index_in_store ((c.0 + puts) % counts.stores) (omega arith)) refl
-  phase_listed h actor c last puts (Asking (Mkdir dir name)) going =
+  phase_listed actor c last puts (Asking (Mkdir dir name)) going =
       let low = low_index counts.shards (c.0 + puts) good.shards in
       let few = good.shards.1 in
       rw (index_in_shard ((c.0 + puts) % counts.shards) (omega arith)) refl
-  phase_listed h actor c last puts (Inserting dir name node ts first) going = rw (in_shard dir.0) (insert_listed h.shard _ c dir name node ts (get h.shard.recs dir.0) (get h.shard.rows (row_key dir name)))
-  phase_listed h actor c last puts (Settling dir name (File file) ts first at) going = rw (not_shard file.0, in_store file.0) (settle_listed h.store file (get h.store file.0))
-  phase_listed h actor c last puts (Settling dir name (Dir child) ts first at) going = rw (in_shard child.0) (settle_dir_listed h.shard child (get h.shard.recs child.0))
-  phase_listed h actor c last puts (TakingBack dir name (File file) errno first at) going = rw (not_shard file.0, in_store file.0) (take_back_listed h.store c file (get h.store file.0))
-  phase_listed h actor c last puts (TakingBack dir name (Dir child) errno first at) going = rw (in_shard child.0) (take_back_dir_listed h.shard c child (get h.shard.recs child.0))
-  phase_listed h actor c last puts (Finished done) going = cc
+  phase_listed actor c last puts (Inserting dir name node ts first) going = rw (in_shard dir.0) (free_listed h.shard free _ (Insert c dir name node ts) (Inserting dir name node ts first) (insert_listed h.shard _ c dir name node ts (get h.shard.recs dir.0) (get h.shard.rows (row_key dir name))))
+  phase_listed actor c last puts (Settling dir name (File file) ts first at) going = rw (not_shard file.0, in_store file.0) (settle_listed h.store file (get h.store file.0))
+  phase_listed actor c last puts (Settling dir name (Dir child) ts first at) going = rw (in_shard child.0) (settle_dir_listed h.shard child (get h.shard.recs child.0))
+  phase_listed actor c last puts (TakingBack dir name (File file) errno first at) going = rw (not_shard file.0, in_store file.0) (take_back_listed h.store c file (get h.store file.0))
+  phase_listed actor c last puts (TakingBack dir name (Dir child) errno first at) going = rw (in_shard child.0) (take_back_dir_listed h.shard c child (get h.shard.recs child.0))
+  phase_listed actor c last puts (Finished done) going = cc
 
-  current_listed : (h : Held) (actor : Actor) (c : Client) (last puts : ℕ) (ended : Bool) (current : Option Phase) (ask : Ask) → Some ask ≡ asked_next counts c puts ended current → is_going_now current ≡ true → answers_now current (serve h actor last ask).entry.answer ≡ true
-  current_listed h actor c last puts true current ask is going = cc
-  current_listed h actor c last puts false None ask is going = refl
-  current_listed h actor c last puts false (Some phase) ask is going = let same : ask ≡ ask_of c (put_index counts c puts phase) phase = cc in rw same (phase_listed h actor c last puts phase going)
+  current_listed : (actor : Actor) (c : Client) (last puts : ℕ) (ended : Bool) (current : Option Phase) (ask : Ask) → Some ask ≡ asked_next counts c puts ended current → is_going_now current ≡ true → answers_now current (serve h actor last ask).entry.answer ≡ true
+  current_listed actor c last puts true current ask is going = cc
+  current_listed actor c last puts false None ask is going = refl
+  current_listed actor c last puts false (Some phase) ask is going = let same : ask ≡ ask_of c (put_index counts c puts phase) phase = cc in rw same (phase_listed actor c last puts phase going)
 
   -- what a client asks is answered as its current call can hear it
-  pub listed : (h : Held) (actor : Actor) (c : Client) (last : ℕ) (p : Progress) (ask : Ask) → Some ask ≡ next_ask counts c p → is_going_now p.current ≡ true → answers_now p.current (serve h actor last ask).entry.answer ≡ true
-  listed h actor c last p ask is going = current_listed h actor c last p.puts p.ended p.current ask is going
+  pub listed : (actor : Actor) (c : Client) (last : ℕ) (p : Progress) (ask : Ask) → Some ask ≡ next_ask counts c p → is_going_now p.current ≡ true → answers_now p.current (serve h actor last ask).entry.answer ≡ true
+  listed actor c last p ask is going = current_listed actor c last p.puts p.ended p.current ask is going

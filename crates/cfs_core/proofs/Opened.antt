@@ -1,14 +1,13 @@
 -- The core of a script before its first turn.
-use Rattle.std.proofs.Common.{◌≡◌, ℕ, ◌+◌, suc, zero, List, [], ◌∷◌, Bool, true, false, refl, sym, ap, ◌∙◌, arith, subst, map}
+use Rattle.std.proofs.Common.{◌≡◌, ℕ, suc, zero, List, [], ◌∷◌, Bool, true, false, refl, sym, arith, subst, map}
 use Rattle.std.specs.Prelude.{if◌then◌else◌, ◌==◌}
 use Rattle.std.specs.List.{list_all}
 use Rattle.cfs_ids.specs.declared.ids.Client.{Client}
-use Rattle.cfs_ids.specs.declared.call.Call.{Call}
 use Rattle.cfs_script.specs.declared.command.Command.{Command}
 use Rattle.cfs_script.specs.declared.command.Command.TheVariants.{Create, Mkdir, Lookup, List as ListCommand}
 use Rattle.cfs_script.specs.declared.script.Script.{Script}
 use Rattle.cfs_script.specs.Calls.{call_of}
-use Rattle.cfs_rules.specs.Worlds.{Counts, AreCounts, Progress, opening, starts, dir_of}
+use Rattle.cfs_rules.specs.Worlds.{Counts, AreCounts, Progress, opening, dir_of}
 use Rattle.cfs_view.specs.Held.{Held, opening_held}
 use Rattle.cfs_actor.specs.declared.client_state.ClientState.{ClientState}
 use Rattle.cfs_core.specs.Clients.{progress_in}

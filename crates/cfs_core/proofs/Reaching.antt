@@ -1,6 +1,6 @@
 -- What a client asks next is there, and so is what it asks after the answer.
-use Rattle.std.proofs.Common.{◌≡◌, ℕ, ◌+◌, ◌*◌, ◌%◌, ◌<◌, ◌≤◌, List, [], ◌∷◌, Bool, true, false, refl, ap, sym, ◌∙◌, subst, arith}
-use Rattle.std.specs.Prelude.{Option, Some, None, nat_lt, nat_le, ◌==◌, ◌&&◌, ◌||◌}
+use Rattle.std.proofs.Common.{◌≡◌, ℕ, ◌+◌, ◌*◌, ◌%◌, ◌<◌, List, [], ◌∷◌, Bool, true, false, refl, sym, subst, arith}
+use Rattle.std.specs.Prelude.{Option, Some, None, nat_lt, nat_le, ◌&&◌, ◌||◌}
 use Rattle.std.specs.List.{list_all}
 use Rattle.std.specs.FinMap.{get}
 use Rattle.std.proofs.lemmas.Bool.Decides.{nat_tests}
@@ -8,8 +8,6 @@ use Rattle.std.proofs.lemmas.Nat.{mod_below}
 use Rattle.cfs_ids.specs.declared.ids.Client.{Client}
 use Rattle.cfs_ids.specs.declared.ids.Stamp.{Stamp}
 use Rattle.cfs_ids.specs.declared.ids.DirId.{DirId}
-use Rattle.cfs_ids.specs.declared.ids.FileId.{FileId}
-use Rattle.cfs_ids.specs.declared.ids.PlaceNo.{PlaceNo}
 use Rattle.cfs_ids.specs.declared.ids.Node.{Node}
 use Rattle.cfs_ids.specs.declared.ids.Node.TheVariants.{Dir, File}
 use Rattle.cfs_ids.specs.declared.ids.Actor.{Actor}
@@ -17,15 +15,18 @@ use Rattle.cfs_ids.specs.declared.call.Call.{Call}
 use Rattle.cfs_ids.specs.declared.call.Call.TheVariants.{Lookup, List as ListCall, Create, Mkdir}
 use Rattle.cfs_ids.specs.Maps.{row_key}
 use Rattle.cfs_steps.specs.declared.ask.Ask.{Ask}
-use Rattle.cfs_steps.specs.declared.ask.Ask.TheVariants.{Put, PutDir, End}
+use Rattle.cfs_steps.specs.declared.ask.Ask.TheVariants.{Read, List as ListAsk, Insert, End}
 use Rattle.cfs_steps.specs.declared.entry.Entry.{Entry}
 use Rattle.cfs_steps.specs.declared.contents.Row.{Row}
 use Rattle.cfs_steps.specs.declared.contents.DirRec.{DirRec}
 use Rattle.cfs_steps.specs.Asks.{place_of, home_of}
-use Rattle.cfs_steps.specs.Phases.{Phase, Asking, Inserting, Settling, TakingBack, Finished, ask_of, heard_as, heard, stamp_of, shard_place, store_place}
-use Rattle.cfs_rules.specs.Places.{Shard, read_row, list_rows, inserted, made_at, number_after, serve_shard, serve_store}
-use Rattle.cfs_rules.specs.Worlds.{Counts, AreCounts, IsCount, Progress, stamped, dir_of, put_index, first_of, rest_of, with_phase, after_entry, next_ask, asked_next, hears}
-use Rattle.cfs_view.specs.Held.{Held, has_place, serve, serve_in}
+use Rattle.cfs_steps.specs.Phases.{Phase, Asking, Inserting, Settling, TakingBack, Finished, ask_of, heard_as, heard}
+use Rattle.cfs_rules.specs.Places.{Shard, Served, read_row, list_rows, inserted, serve_free, serve_shard}
+use Rattle.cfs_rules.specs.Facts.{Unlocked}
+use Rattle.cfs_rules.proofs.Locks.{serve_shard-unlocked}
+use Rattle.cfs_rules.specs.Worlds.{Counts, AreCounts, IsCount, Progress, dir_of, put_index, first_of, rest_of, with_phase, after_entry, next_ask, asked_next, hears}
+use Rattle.cfs_view.specs.Held.{Held, has_place, serve}
+use Rattle.cfs_core.proofs.Listed.{at_step}
 use Rattle.cfs_core.specs.Reach.{dir_there, node_there, phase_there, current_there, progress_there}
 
 pub and_left : (a b : Bool) → (a && b) ≡ true → a ≡ true
@@ -121,11 +122,15 @@ insert_heard counts shard at c dir name node ts first s h None q = h
 insert_heard counts shard at c dir name node ts first s h (Some r) (Some row) = h
 insert_heard counts shard at c dir name node ts first s h (Some r) None = h
 
-module _ (counts : Counts) (good : AreCounts counts) (h : Held) (actor : Actor) (c : Client) (last puts : ℕ) where
+-- where no lock is set
+free_heard : (counts : Counts) (s : Shard) → Unlocked s → (at : Stamp) (ask : Ask) (phase : Phase) (stamp : Stamp) → phase_there counts (heard_as phase stamp (serve_free s at ask).answer) ≡ true → phase_there counts (heard_as phase stamp (serve_shard s at ask).answer) ≡ true
+free_heard counts s free at ask phase stamp h = subst (λ (served : Served Shard). phase_there counts (heard_as phase stamp served.answer) ≡ true) (sym (serve_shard-unlocked s free at ask)) h
+
+module _ (counts : Counts) (good : AreCounts counts) (h : Held) (free : Unlocked h.shard) (actor : Actor) (c : Client) (last puts : ℕ) where
   phase_heard : (phase : Phase) → phase_there counts phase ≡ true
       → (let ask = ask_of c (put_index counts c puts phase) phase in phase_there counts (heard phase (place_of ask) (serve h actor last ask).entry) ≡ true)
-  phase_heard (Asking (Lookup dir name)) there = rw (in_shard dir.0) (lookup_heard counts dir name _ there (get h.shard.rows (row_key dir name)))
-  phase_heard (Asking (ListCall dir)) there = rw (in_shard dir.0) (list_heard counts h.shard dir _ there (get h.shard.recs dir.0))
+  phase_heard (Asking (Lookup dir name)) there = rw (in_shard dir.0) (free_heard counts h.shard free (at_step h last (Read dir name)) (Read dir name) (Asking (Lookup dir name)) _ (lookup_heard counts dir name _ there (get h.shard.rows (row_key dir name))))
+  phase_heard (Asking (ListCall dir)) there = rw (in_shard dir.0) (free_heard counts h.shard free (at_step h last (ListAsk dir)) (ListAsk dir) (Asking (ListCall dir)) _ (list_heard counts h.shard dir _ there (get h.shard.recs dir.0)))
   phase_heard (Asking (Create dir name)) there =
       let index = (c.0 + puts) % counts.stores in
       let low : index < counts.stores = mod_below (c.0 + puts) counts.stores good.stores.0 in
@@ -145,24 +150,24 @@ module _ (counts : Counts) (good : AreCounts counts) (h : Held) (actor : Actor) 
     where
       new_dir : (number index : ℕ) → index < counts.shards → index < 64 → nat_lt ((64 * number + index % 64) % 64) counts.shards ≡ true
       new_dir number index low small = rw (low_part number index small) (grind (arith, nat_tests, low))
-  phase_heard (Inserting dir name node ts first) there = rw (in_shard dir.0) (insert_heard counts h.shard _ c dir name node ts first _ (and_right (dir_there counts dir) (node_there counts node) there) (get h.shard.recs dir.0) (get h.shard.rows (row_key dir name)))
+  phase_heard (Inserting dir name node ts first) there = rw (in_shard dir.0) (free_heard counts h.shard free _ (Insert c dir name node ts) (Inserting dir name node ts first) _ (insert_heard counts h.shard _ c dir name node ts first _ (and_right (dir_there counts dir) (node_there counts node) there) (get h.shard.recs dir.0) (get h.shard.rows (row_key dir name))))
   phase_heard (Settling dir name node ts first at) there = refl
   phase_heard (TakingBack dir name node errno first at) there = refl
   phase_heard (Finished done) there = refl
 
-hears_by : (counts : Counts) → AreCounts counts → (h : Held) (actor : Actor) (c : Client) (last : ℕ) (p : Progress) (ended : Bool) (current : Option Phase) (ask : Ask) → Some ask ≡ asked_next counts c p.puts ended current → current_there counts current ≡ true → list_all (λ call. dir_there counts (dir_of call)) p.waiting ≡ true
+hears_by : (counts : Counts) → AreCounts counts → (h : Held) → Unlocked h.shard → (actor : Actor) (c : Client) (last : ℕ) (p : Progress) (ended : Bool) (current : Option Phase) (ask : Ask) → Some ask ≡ asked_next counts c p.puts ended current → current_there counts current ≡ true → list_all (λ call. dir_there counts (dir_of call)) p.waiting ≡ true
     → progress_there counts (after_entry p current (place_of ask) (serve h actor last ask).entry) ≡ true
-hears_by counts good h actor c last p true current ask is there w = cc
-hears_by counts good h actor c last p false None ask is there w = w
-hears_by counts good h actor c last p false (Some phase) ask is there w =
+hears_by counts good h free actor c last p true current ask is there w = cc
+hears_by counts good h free actor c last p false None ask is there w = w
+hears_by counts good h free actor c last p false (Some phase) ask is there w =
     let same : ask ≡ ask_of c (put_index counts c p.puts phase) phase = cc in
-    let heard_there = phase_heard counts good h actor c last p.puts phase there in
+    let heard_there = phase_heard counts good h free actor c last p.puts phase there in
     let step = ask_of c (put_index counts c p.puts phase) phase in
     let entry = (serve h actor last step).entry in
     rw same (with_phase_there counts p entry (heard phase (place_of step) entry) heard_there w)
 
-pub hears_there : (counts : Counts) → AreCounts counts → (h : Held) (actor : Actor) (c : Client) (last : ℕ) (p : Progress) (ask : Ask) → Some ask ≡ next_ask counts c p → progress_there counts p ≡ true → progress_there counts (hears p (place_of ask) (serve h actor last ask).entry) ≡ true
-hears_there counts good h actor c last p ask is there = hears_by counts good h actor c last p p.ended p.current ask is (and_left (current_there counts p.current) _ there) (and_right (current_there counts p.current) _ there)
+pub hears_there : (counts : Counts) → AreCounts counts → (h : Held) → Unlocked h.shard → (actor : Actor) (c : Client) (last : ℕ) (p : Progress) (ask : Ask) → Some ask ≡ next_ask counts c p → progress_there counts p ≡ true → progress_there counts (hears p (place_of ask) (serve h actor last ask).entry) ≡ true
+hears_there counts good h free actor c last p ask is there = hears_by counts good h free actor c last p p.ended p.current ask is (and_left (current_there counts p.current) _ there) (and_right (current_there counts p.current) _ there)
 
 -- calls in the root ask the first shard, which is always there
 pub root_there : (counts : Counts) → AreCounts counts → nat_lt (0 % 64) counts.shards ≡ true

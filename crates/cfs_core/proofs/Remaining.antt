@@ -1,156 +1,131 @@
 -- The entries that are left of the logs, where one place's newest is taken.
-use Rattle.std.proofs.Common.{◌≡◌, ◌≢◌, ℕ, suc, zero, ◌+◌, ◌-◌, ◌<◌, ◌≤◌, List, [], ◌∷◌, ◌++◌, length, map, reverse, take, set, get_or, Bool, true, false, refl, sym, ap, ◌∙◌, arith, Result, Ok, Err}
-use Rattle.std.specs.Prelude.{Option, slice_get, ◌==◌, if◌then◌else◌, nat_lt, IfOk, OnOk}
+use Rattle.std.proofs.Common.{◌≡◌, ◌≢◌, ℕ, suc, zero, ◌+◌, ◌-◌, ◌<◌, ◌≤◌, List, [], ◌∷◌, ◌++◌, length, reverse, take, set, get_or, Bool, true, false, refl, sym, ap, ◌∙◌, subst, arith, Result, Ok, Err}
+use Rattle.std.specs.Prelude.{Option, Some, None, is_some, slice_get, ◌==◌, if◌then◌else◌, nat_lt, IfOk, OnOk}
 use Rattle.std.proofs.lemmas.Bool.Decides.{nat_tests}
-use Rattle.std.proofs.lemmas.List.{take_more, take_all}
-use Rattle.cfs_view.proofs.Openings.{map-more}
+use Rattle.std.proofs.lemmas.List.{take_all, length-append}
 use Rattle.cfs_ids.specs.declared.ids.PlaceNo.{PlaceNo}
 use Rattle.cfs_ids.specs.declared.memory.NoMemory.{NoMemory}
 use Rattle.cfs_steps.specs.declared.entry.Entry.{Entry}
-use Rattle.cfs_rules.specs.Several.{View, log_at}
-use Rattle.cfs_view.specs.Held.{set_log}
-use Rattle.cfs_view.specs.Views.{of_place}
-use Rattle.cfs_core.specs.Ends.{left_at, AreWithin, placed}
+use Rattle.cfs_view.specs.declared.place.Place.{Place}
+use Rattle.cfs_view.specs.Held.{set_log, has_place}
+use Rattle.cfs_view.specs.PlaceLists.{place_in, AreService}
+use Rattle.cfs_view.specs.PlaceViews.{log_of}
+use Rattle.cfs_view.specs.Views.{counts_in, logs_in, log_shown}
+use Rattle.cfs_view.proofs.Finding.{few_shards, few_stores, there}
+use Rattle.cfs_core.specs.Ends.{count_shown, first_shown, placed}
 use Rattle.cfs_core.specs.Weave.{first_entry, without_first}
+use Rattle.cfs_core.proofs.Counting.{low_there}
 
--- ---- counts of a list, taken one by one
-pub counts_more : {A : Type 0} (count : A → ℕ) (xs : List A) (i : ℕ) (counts counts' : List ℕ) (x : A) (n : ℕ) → i < length xs → x ≡ get_or xs i x → n ≡ count x → counts ≡ map count (take i xs) → counts' ≡ counts ++ n ∷ [] → counts' ≡ map count (take (i + 1) xs)
-counts_more count xs i counts counts' x n lt is counted so_far pushed = pushed ∙ (λ j. so_far j ++ (counted ∙ ap count is) j ∷ [])
-    ∙ sym (ap (map count) (take_more xs i x lt) ∙ map-more count (take i xs) (get_or xs i x))
+-- ---- counts, one for each number
+pub at_end : (xs : List ℕ) (x : ℕ) → get_or (xs ++ x ∷ []) (length xs) 0 ≡ x
+at_end [] x = refl
+at_end (y ∷ xs) x = at_end xs x
 
-pub counts_done : {A : Type 0} (count : A → ℕ) (xs items : List A) (i : ℕ) (counts : List ℕ) → length items ≤ i → items ≡ xs → counts ≡ map count (take i items) → counts ≡ map count xs
-counts_done count xs items i counts past is so_far = so_far ∙ ap (map count) (take_all i items past ∙ is)
+before_end : (xs : List ℕ) (x i : ℕ) → i < length xs → get_or (xs ++ x ∷ []) i 0 ≡ get_or xs i 0
+before_end [] x i lt = absurd (omega arith)
+before_end (y ∷ xs) x zero lt = refl
+before_end (y ∷ xs) x (suc i) lt = before_end xs x i (omega arith)
 
-module _ {C : Type 0} where
-  -- ---- where each count is its log's length
-  pub all_within : {A : Type 0} (view : A → View C) (xs : List A) → AreWithin (map view xs) (map (λ (x : A). length (view x).log) xs)
-  all_within view [] = tt
-  all_within view (x ∷ xs) = (omega arith, all_within view xs)
+past_end : (xs : List ℕ) (i : ℕ) → length xs ≤ i → get_or xs i 0 ≡ 0
+past_end [] i past = refl
+past_end (x ∷ xs) zero past = absurd (omega arith)
+past_end (x ∷ xs) (suc i) past = past_end xs i (omega arith)
 
-  pub all_left : {A : Type 0} (view : A → View C) (xs : List A) (i : ℕ) → left_at (map view xs) (map (λ (x : A). length (view x).log) xs) i ≡ log_at (map view xs) i
-  all_left view [] i = refl
-  all_left view (x ∷ xs) zero = ap reverse (take_all (length (view x).log) (view x).log (omega arith))
-  all_left view (x ∷ xs) (suc i) = all_left view xs i
-
-  -- ---- at an index
-  pub within_length : (vs : List (View C)) (counts : List ℕ) → AreWithin vs counts → length counts ≡ length vs
-  within_length [] [] h = refl
-  within_length [] (n ∷ counts) h = absurd h
-  within_length (v ∷ vs) [] h = absurd h
-  within_length (v ∷ vs) (n ∷ counts) h = ap suc (within_length vs counts h.1)
-
-  within_here : (vs : List (View C)) (counts : List ℕ) (i : ℕ) (v : View C) (n : ℕ) → AreWithin vs counts → i < length vs → v ≡ get_or vs i v → n ≡ get_or counts i n → n ≤ length v.log
-  within_here [] counts i v n h lt here count = absurd (omega arith)
-  within_here (w ∷ vs) [] i v n h lt here count = absurd h
-  within_here (w ∷ vs) (m ∷ counts) zero v n h lt here count = let same = ap (λ (u : View C). length u.log) here in omega (arith, h.0)
-  within_here (w ∷ vs) (m ∷ counts) (suc i) v n h lt here count = within_here vs counts i v n h.1 (omega arith) here count
-
-  left_here : (vs : List (View C)) (counts : List ℕ) (i : ℕ) (v : View C) (n : ℕ) → AreWithin vs counts → i < length vs → v ≡ get_or vs i v → n ≡ get_or counts i n → left_at vs counts i ≡ reverse (take n v.log)
-  left_here [] counts i v n h lt here count = absurd (omega arith)
-  left_here (w ∷ vs) [] i v n h lt here count = absurd h
-  left_here (w ∷ vs) (m ∷ counts) zero v n h lt here count = ap (λ k. reverse (take k w.log)) (sym count) ∙ ap (λ (u : View C). reverse (take n u.log)) (sym here)
-  left_here (w ∷ vs) (m ∷ counts) (suc i) v n h lt here count = left_here vs counts i v n h.1 (omega arith) here count
-
-  -- ---- where the count at an index is set
-  pub within_set : (vs : List (View C)) (counts : List ℕ) (i : ℕ) (n m : ℕ) → AreWithin vs counts → n ≡ get_or counts i n → m ≤ n → AreWithin vs (set counts i m)
-  within_set [] [] i n m h count less = tt
-  within_set [] (k ∷ counts) i n m h count less = absurd h
-  within_set (v ∷ vs) [] i n m h count less = absurd h
-  within_set (v ∷ vs) (k ∷ counts) zero n m h count less = (omega (arith, h.0), h.1)
-  within_set (v ∷ vs) (k ∷ counts) (suc i) n m h count less = (h.0, within_set vs counts i n m h.1 count less)
-
-  left_same : (vs : List (View C)) (counts : List ℕ) (i : ℕ) (v : View C) (m : ℕ) → AreWithin vs counts → i < length vs → v ≡ get_or vs i v → left_at vs (set counts i m) i ≡ reverse (take m v.log)
-  left_same [] counts i v m h lt here = absurd (omega arith)
-  left_same (w ∷ vs) [] i v m h lt here = absurd h
-  left_same (w ∷ vs) (k ∷ counts) zero v m h lt here = ap (λ (u : View C). reverse (take m u.log)) (sym here)
-  left_same (w ∷ vs) (k ∷ counts) (suc i) v m h lt here = left_same vs counts i v m h.1 (omega arith) here
-
-  left_other : (vs : List (View C)) (counts : List ℕ) (i j m : ℕ) → j ≢ i → left_at vs (set counts i m) j ≡ left_at vs counts j
-  left_other [] counts i j m differ = refl
-  left_other (v ∷ vs) [] i j m differ = refl
-  left_other (v ∷ vs) (k ∷ counts) zero zero m differ = absurd (differ refl)
-  left_other (v ∷ vs) (k ∷ counts) zero (suc j) m differ = refl
-  left_other (v ∷ vs) (k ∷ counts) (suc i) zero m differ = refl
-  left_other (v ∷ vs) (k ∷ counts) (suc i) (suc j) m differ = left_other vs counts i j m (λ e. differ (ap suc e))
-
--- ---- the logs of all places
-abbrev pub logs_by : (ℕ → List Entry) → (ℕ → List Entry) → List Entry → ℕ → List Entry
-logs_by f g r p = of_place (nat_lt p 64) (nat_lt p 128) (f p) (g (p - 64)) (if p == 129 then r else [])
-
-by_shard : (f g : ℕ → List Entry) (r : List Entry) (p : ℕ) → nat_lt p 64 ≡ true → logs_by f g r p ≡ f p
-by_shard f g r p low = ap (λ a. of_place a (nat_lt p 128) (f p) (g (p - 64)) (if p == 129 then r else [])) low
-
-by_store : (f g : ℕ → List Entry) (r : List Entry) (p : ℕ) → nat_lt p 64 ≡ false → nat_lt p 128 ≡ true → logs_by f g r p ≡ g (p - 64)
-by_store f g r p high low = ap (λ a. of_place a (nat_lt p 128) (f p) (g (p - 64)) (if p == 129 then r else [])) high
-    ∙ ap (λ b. of_place false b (f p) (g (p - 64)) (if p == 129 then r else [])) low
-
--- another log in one place's stead
-set_shard : (f f' g : ℕ → List Entry) (r : List Entry) (i : ℕ) (log : List Entry) → nat_lt i 64 ≡ true → f' i ≡ log → ((j : ℕ) → j ≢ i → f' j ≡ f j) → (p : ℕ) → logs_by f' g r p ≡ set_log (logs_by f g r) i log p
-set_shard f f' g r i log low here others p = by_test (p == i) refl (nat_lt p 64) refl (nat_lt p 128)
+get_or-set : (xs : List ℕ) (i x j : ℕ) → i < length xs → get_or (set xs i x) j 0 ≡ (if j == i then x else get_or xs j 0)
+get_or-set [] i x j lt = absurd (omega arith)
+get_or-set (y ∷ xs) zero x zero lt = refl
+get_or-set (y ∷ xs) zero x (suc j) lt = let differ : (suc j == 0) ≡ false = grind (arith, nat_tests) in rw differ refl
+get_or-set (y ∷ xs) (suc i) x zero lt = let differ : (0 == suc i) ≡ false = grind (arith, nat_tests) in rw differ refl
+get_or-set (y ∷ xs) (suc i) x (suc j) lt = get_or-set xs i x j (omega arith) ∙ ap (λ b. if b then x else get_or xs j 0) (same_test (j == i) refl)
   where
-    by_test : (c : Bool) → (p == i) ≡ c → (a : Bool) → nat_lt p 64 ≡ a → (b : Bool) → of_place a b (f' p) (g (p - 64)) (if p == 129 then r else []) ≡ (if c then log else of_place a b (f p) (g (p - 64)) (if p == 129 then r else []))
-    by_test true t true u b = let same : p ≡ i = grind (arith, nat_tests) in ap f' same ∙ here
-    by_test true t false u b = let same : p ≡ i = grind (arith, nat_tests) in let clash : nat_lt p 64 ≡ true = ap (λ n. nat_lt n 64) same ∙ low in cc
-    by_test false t true u b = let differ : p ≢ i = grind (arith, nat_tests) in others p differ
-    by_test false t false u true = refl
-    by_test false t false u false = refl
+    same_test : (b : Bool) → (j == i) ≡ b → b ≡ (suc j == suc i)
+    same_test true t = grind (arith, nat_tests)
+    same_test false t = grind (arith, nat_tests)
 
-set_store : (f g g' : ℕ → List Entry) (r : List Entry) (i : ℕ) (log : List Entry) → nat_lt i 64 ≡ false → nat_lt i 128 ≡ true → g' (i - 64) ≡ log → ((j : ℕ) → j ≢ i - 64 → g' j ≡ g j) → (p : ℕ) → logs_by f g' r p ≡ set_log (logs_by f g r) i log p
-set_store f g g' r i log high low here others p = by_test (p == i) refl (nat_lt p 64) refl (nat_lt p 128) refl
+pub length-set : (xs : List ℕ) (i x : ℕ) → length (set xs i x) ≡ length xs
+length-set [] i x = refl
+length-set (y ∷ xs) zero x = refl
+length-set (y ∷ xs) (suc i) x = ap suc (length-set xs i x)
+
+-- the counts so far are those of the places with these numbers
+pub record AreCounted (ps : List Place) (counts : List ℕ) (end : ℕ) : Type 0 where
+  pub size : length counts ≡ end
+  pub each : (n : ℕ) → n < end → get_or counts n 0 ≡ count_shown (place_in ps n)
+
+pub counted_more : (ps : List Place) (counts : List ℕ) (end count : ℕ) → AreCounted ps counts end → count ≡ count_shown (place_in ps end) → AreCounted ps (counts ++ count ∷ []) (end + 1)
+counted_more ps counts end count h is = record {
+  size = length-append counts (count ∷ []) ∙ omega (arith, h.size);
+  each = λ n lt. by_test n lt (n == end) refl;
+}
   where
-    by_test : (c : Bool) → (p == i) ≡ c → (a : Bool) → nat_lt p 64 ≡ a → (b : Bool) → nat_lt p 128 ≡ b → of_place a b (f p) (g' (p - 64)) (if p == 129 then r else []) ≡ (if c then log else of_place a b (f p) (g (p - 64)) (if p == 129 then r else []))
-    by_test true t true u b v = let same : p ≡ i = grind (arith, nat_tests) in let clash : nat_lt p 64 ≡ false = ap (λ n. nat_lt n 64) same ∙ high in cc
-    by_test true t false u true v = let same : p ≡ i = grind (arith, nat_tests) in ap (λ n. g' (n - 64)) same ∙ here
-    by_test true t false u false v = let same : p ≡ i = grind (arith, nat_tests) in let clash : nat_lt p 128 ≡ true = ap (λ n. nat_lt n 128) same ∙ low in cc
-    by_test false t true u b v = refl
-    by_test false t false u true v =
-        let differ : p ≢ i = grind (arith, nat_tests) in let p_high : 64 ≤ p = grind (arith, nat_tests) in let i_high : 64 ≤ i = grind (arith, nat_tests) in
-        others (p - 64) (λ equal. differ (omega arith))
-    by_test false t false u false v = refl
+    by_test : (n : ℕ) → n < end + 1 → (b : Bool) → (n == end) ≡ b → get_or (counts ++ count ∷ []) n 0 ≡ count_shown (place_in ps n)
+    by_test n lt true t = let same : n ≡ end = grind (arith, nat_tests) in rw same (ap (λ k. get_or (counts ++ count ∷ []) k 0) (sym h.size) ∙ at_end counts count ∙ is)
+    by_test n lt false t = let differ : n ≢ end = grind (arith, nat_tests) in before_end counts count n (omega (arith, differ, lt, h.size)) ∙ h.each n (omega (arith, differ, lt))
 
--- ---- where the newest entry of a place is taken
-module _ {C : Type 0} (vs : List (View C)) (counts : List ℕ) (i : ℕ) (v : View C) (n m : ℕ) (o : Option Entry) (r : Result (Option Entry) NoMemory)
-    (h : AreWithin vs counts) (lt : i < length vs) (here : v ≡ get_or vs i v) (count : n ≡ get_or counts i n) where
-  newest_here : (logs : ℕ → List Entry) (place : PlaceNo) → logs place.0 ≡ left_at vs counts i → o ≡ slice_get v.log (n - 1)
-      → IfOk r (λ newest. (log : List Entry) → n ≤ length log → o ≡ slice_get log (n - 1) → (at : PlaceNo) → first_entry at (reverse (take n log)) ≡ placed at newest)
-      → IfOk r (λ newest. first_entry place (logs place.0) ≡ placed place newest)
-  newest_here logs place is entry first = by_result r first
+-- ---- no place has a number from 130 on
+none_high : (ps : List Place) → AreService ps → (n : ℕ) → 130 ≤ n → place_in ps n ≡ None
+none_high ps good n high = by_option (place_in ps n) refl
+  where
+    by_option : (o : Option Place) → place_in ps n ≡ o → o ≡ None
+    by_option None e = refl
+    by_option (Some p) e = let low = low_there (counts_in ps) n (few_shards ps good) (few_stores ps good) (sym (there ps good n) ∙ ap is_some e) in absurd (omega (arith, low, high))
+
+pub number_low : (ps : List Place) → AreService ps → (n : ℕ) → has_place (counts_in ps) n ≡ true → n < 130
+number_low ps good n h = low_there (counts_in ps) n (few_shards ps good) (few_stores ps good) h
+
+module _ (ps : List Place) (good : AreService ps) (counts : List ℕ) (h : AreCounted ps counts 130) where
+  each_count : (n : ℕ) → get_or counts n 0 ≡ count_shown (place_in ps n)
+  each_count n = by_test (nat_lt n 130) refl
     where
-      by_result : (res : Result (Option Entry) NoMemory) → IfOk res (λ newest. (log : List Entry) → n ≤ length log → o ≡ slice_get log (n - 1) → (at : PlaceNo) → first_entry at (reverse (take n log)) ≡ placed at newest)
-          → IfOk res (λ newest. first_entry place (logs place.0) ≡ placed place newest)
-      by_result (Err e) f = tt
-      by_result (Ok newest) f = ap (first_entry place) (is ∙ left_here vs counts i v n h lt here count) ∙ f v.log (within_here vs counts i v n h lt here count) entry place
+      by_test : (b : Bool) → nat_lt n 130 ≡ b → get_or counts n 0 ≡ count_shown (place_in ps n)
+      by_test true t = h.each n (grind (arith, nat_tests))
+      by_test false t = let high : 130 ≤ n = grind (arith, nat_tests) in past_end counts n (omega (arith, high, h.size)) ∙ sym (ap count_shown (none_high ps good n high))
 
-  others_here : (logs logs' : ℕ → List Entry) (place : ℕ) → logs place ≡ left_at vs counts i
-      → ((log : List Entry) → left_at vs (set counts i m) i ≡ log → (p : ℕ) → logs' p ≡ set_log logs place log p)
-      → OnOk r ((log : List Entry) → n ≤ length log → reverse (take m log) ≡ without_first (reverse (take n log)))
-      → OnOk r (logs' ≡ (λ p. set_log logs place (without_first (logs place)) p))
-  others_here logs logs' place is others rest = by_result r rest
+  pub all_within : (n : ℕ) → get_or counts n 0 ≤ count_shown (place_in ps n)
+  all_within n = let is = each_count n in omega (arith, is)
+
+  pub all_left : (n : ℕ) → first_shown (get_or counts n 0) (place_in ps n) ≡ logs_in ps n
+  all_left n = by_option (place_in ps n) (each_count n)
     where
-      by_result : (res : Result (Option Entry) NoMemory) → OnOk res ((log : List Entry) → n ≤ length log → reverse (take m log) ≡ without_first (reverse (take n log)))
-          → OnOk res (logs' ≡ (λ p. set_log logs place (without_first (logs place)) p))
-      by_result (Err e) f = tt
-      by_result (Ok newest) f = λ j. λ p. others (without_first (logs place))
-          (left_same vs counts i v m h lt here ∙ f v.log (within_here vs counts i v n h lt here count) ∙ ap without_first (sym (left_here vs counts i v n h lt here count) ∙ sym is)) p j
+      by_option : (o : Option Place) → get_or counts n 0 ≡ count_shown o → first_shown (get_or counts n 0) o ≡ log_shown o
+      by_option None is = refl
+      by_option (Some p) is = ap reverse (take_all (get_or counts n 0) (log_of p) (omega (arith, is)))
 
-  pub shard_taken : (g : ℕ → List Entry) (roster : List Entry) (place : PlaceNo) → place.0 ≡ i → nat_lt i 64 ≡ true → o ≡ slice_get v.log (n - 1)
-      → IfOk r (λ newest. (log : List Entry) → n ≤ length log → o ≡ slice_get log (n - 1) → (at : PlaceNo) → first_entry at (reverse (take n log)) ≡ placed at newest)
-      → IfOk r (λ newest. first_entry place (logs_by (left_at vs counts) g roster place.0) ≡ placed place newest)
-  shard_taken g roster place at low entry first = newest_here (logs_by (left_at vs counts) g roster) place (ap (logs_by (left_at vs counts) g roster) at ∙ by_shard (left_at vs counts) g roster i low) entry first
+-- ---- the newest of one place's entries is taken
+module _ (ps : List Place) (counts : List ℕ) (place : PlaceNo) (p : Place) (count count' : ℕ) (found : Some p ≡ place_in ps place.0) (lt : place.0 < length counts) (is : count ≡ get_or counts place.0 count)
+    (within : (n : ℕ) → get_or counts n 0 ≤ count_shown (place_in ps n)) where
+  any_default : (xs : List ℕ) (i : ℕ) (d : ℕ) → i < length xs → get_or xs i d ≡ get_or xs i 0
+  any_default [] i d lt = absurd (omega arith)
+  any_default (x ∷ xs) zero d lt = refl
+  any_default (x ∷ xs) (suc i) d lt = any_default xs i d (omega arith)
 
-  pub shard_left : (g : ℕ → List Entry) (roster : List Entry) → nat_lt i 64 ≡ true
-      → OnOk r ((log : List Entry) → n ≤ length log → reverse (take m log) ≡ without_first (reverse (take n log)))
-      → OnOk r (logs_by (left_at vs (set counts i m)) g roster ≡ (λ p. set_log (logs_by (left_at vs counts) g roster) i (without_first (logs_by (left_at vs counts) g roster i)) p))
-  shard_left g roster low rest = others_here (logs_by (left_at vs counts) g roster) (logs_by (left_at vs (set counts i m)) g roster) i (by_shard (left_at vs counts) g roster i low)
-      (λ log same p. set_shard (left_at vs counts) (left_at vs (set counts i m)) g roster i log low same (λ j differ. left_other vs counts i j m differ) p) rest
+  count_is : get_or counts place.0 0 ≡ count
+  count_is = sym (is ∙ any_default counts place.0 count lt)
 
-  pub store_taken : (f : ℕ → List Entry) (roster : List Entry) (place : PlaceNo) → place.0 - 64 ≡ i → nat_lt place.0 64 ≡ false → nat_lt place.0 128 ≡ true → o ≡ slice_get v.log (n - 1)
-      → IfOk r (λ newest. (log : List Entry) → n ≤ length log → o ≡ slice_get log (n - 1) → (at : PlaceNo) → first_entry at (reverse (take n log)) ≡ placed at newest)
-      → IfOk r (λ newest. first_entry place (logs_by f (left_at vs counts) roster place.0) ≡ placed place newest)
-  store_taken f roster place at high low entry first = newest_here (logs_by f (left_at vs counts) roster) place (by_store f (left_at vs counts) roster place.0 high low ∙ ap (left_at vs counts) at) entry first
+  own_log : first_shown (get_or counts place.0 0) (place_in ps place.0) ≡ reverse (take count (log_of p))
+  own_log = ap (λ n. first_shown n (place_in ps place.0)) count_is ∙ ap (first_shown count) (sym found)
 
-  pub store_left : (f : ℕ → List Entry) (roster : List Entry) (place : ℕ) → place - 64 ≡ i → nat_lt place 64 ≡ false → nat_lt place 128 ≡ true
-      → OnOk r ((log : List Entry) → n ≤ length log → reverse (take m log) ≡ without_first (reverse (take n log)))
-      → OnOk r (logs_by f (left_at vs (set counts i m)) roster ≡ (λ p. set_log (logs_by f (left_at vs counts) roster) place (without_first (logs_by f (left_at vs counts) roster place)) p))
-  store_left f roster place at high low rest = others_here (logs_by f (left_at vs counts) roster) (logs_by f (left_at vs (set counts i m)) roster) place (by_store f (left_at vs counts) roster place high low ∙ ap (left_at vs counts) at)
-      (λ log same p. set_store f (left_at vs counts) (left_at vs (set counts i m)) roster place log high low (ap (left_at vs (set counts i m)) at ∙ same) (λ j differ. left_other vs counts i j m (λ e. differ (e ∙ sym at))) p) rest
+  enough : count ≤ length (log_of p)
+  enough = let w = within place.0 in let same = ap count_shown (sym found) in omega (arith, w, same, count_is)
+
+  pub place_taken : (r : Result (Option Entry) NoMemory) (entry : Option Entry) → entry ≡ slice_get (log_of p) (count - 1)
+      → IfOk r (λ newest. (log : List Entry) → count ≤ length log → entry ≡ slice_get log (count - 1) → (q : PlaceNo) → first_entry q (reverse (take count log)) ≡ placed q newest)
+      → IfOk r (λ newest. first_entry place (first_shown (get_or counts place.0 0) (place_in ps place.0)) ≡ placed place newest)
+  place_taken (Ok newest) entry at first = ap (first_entry place) own_log ∙ first (log_of p) enough at place
+  place_taken (Err e) entry at first = tt
+
+  pub place_left : (r : Result (Option Entry) NoMemory) → OnOk r ((log : List Entry) → count ≤ length log → reverse (take count' log) ≡ without_first (reverse (take count log)))
+      → OnOk r ((λ n. first_shown (get_or (set counts place.0 count') n 0) (place_in ps n)) ≡ set_log (λ n. first_shown (get_or counts n 0) (place_in ps n)) place.0 (without_first (first_shown (get_or counts place.0 0) (place_in ps place.0))))
+  place_left (Ok newest) rest = λ j n. (ap (λ k. first_shown k (place_in ps n)) (get_or-set counts place.0 count' n lt) ∙ by_test n (n == place.0) refl) j
+    where
+      by_test : (n : ℕ) (b : Bool) → (n == place.0) ≡ b → first_shown (if b then count' else get_or counts n 0) (place_in ps n) ≡ (if b then without_first (first_shown (get_or counts place.0 0) (place_in ps place.0)) else first_shown (get_or counts n 0) (place_in ps n))
+      by_test n true t = let same : n ≡ place.0 = grind (arith, nat_tests) in ap (λ k. first_shown count' (place_in ps k)) same ∙ ap (first_shown count') (sym found) ∙ rest (log_of p) enough ∙ sym (ap without_first own_log)
+      by_test n false t = refl
+  place_left (Err e) rest = tt
+
+  pub still_within : count' ≤ count → (n : ℕ) → get_or (set counts place.0 count') n 0 ≤ count_shown (place_in ps n)
+  still_within less n = subst (λ k. k ≤ count_shown (place_in ps n)) (sym (get_or-set counts place.0 count' n lt)) (by_test (n == place.0) refl)
+    where
+      by_test : (b : Bool) → (n == place.0) ≡ b → (if b then count' else get_or counts n 0) ≤ count_shown (place_in ps n)
+      by_test true t = let same : n ≡ place.0 = grind (arith, nat_tests) in let w = within n in let own : get_or counts n 0 ≡ count = ap (λ k. get_or counts k 0) same ∙ count_is in omega (arith, w, own, less)
+      by_test false t = within n

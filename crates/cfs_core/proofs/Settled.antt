@@ -17,9 +17,11 @@ pub sound-settled : (places : Places) (new old : List ClientState) (order : List
 sound-settled places new old order same counts sound =
     let progress = sym (progress_in-shown new old same) in
     record {
+      service = sound.service;
       counted = subst (λ (cs : ℕ → Progress). IsCounted (reverse order) (held places) cs) progress sound.counted;
       sized = sound.sized;
       alike = alike-same (places_of places) new old counts ∙ sound.alike;
       there = λ c. subst (λ (cs : ℕ → Progress). progress_there (places_of places) (cs c) ≡ true) progress (sound.there c);
       asked = sound.asked;
+      free = sound.free;
     }

@@ -10,10 +10,12 @@ use Rattle.cfs_core.proofs.States.{progress_in-at, client-at, progress_in-set}
 use Rattle.cfs_ids.specs.declared.ids.PlaceNo.{PlaceNo}
 use Rattle.cfs_ids.specs.declared.ids.Actor.TheVariants.{Client as ClientActor}
 use Rattle.cfs_steps.specs.declared.ask.Ask.{Ask}
+use Rattle.cfs_steps.specs.declared.ask.Ask.TheVariants.{Read, List as ListAsk, Insert, Put, PutDir, Settle, TakeBack, End}
+use Rattle.cfs_steps.specs.declared.answer.Answer.TheVariants.{None as NoneAnswer}
 use Rattle.cfs_steps.specs.Asks.{place_of}
-use Rattle.cfs_rules.specs.Worlds.{Counts, Progress, client_of, next_ask, set_client, step_in, turn_asking, turn}
-use Rattle.cfs_rules.specs.Places.{number_after}
-use Rattle.cfs_view.specs.Held.{Held, set_log, serve_in}
+use Rattle.cfs_rules.specs.Worlds.{Counts, Progress, client_of, next_ask, set_client, hears, after_roster, step_in, turn_asking, turn}
+use Rattle.cfs_rules.specs.Places.{Roster, Served, unmoved, serve_roster, number_after}
+use Rattle.cfs_view.specs.Held.{Held, set_log, serve_in, serve_late}
 use Rattle.cfs_core.specs.Parts.{Part, after_step, turned, turn_part}
 use Rattle.cfs_steps.specs.declared.entry.Entry.{Entry}
 use Rattle.cfs_core.specs.Weave.{first_entry, without_first, woven, world_from}
@@ -34,6 +36,17 @@ woven_more place e order logs =
     ap (λ l. first_entry place l ++ woven order (set_log (set_log logs place.0 (e ∷ logs place.0)) place.0 (without_first l))) (first_of_log logs place.0 (e ∷ logs place.0))
     ∙ ap (λ ls. (place, e) ∷ woven order ls) (without_it logs place.0 (e ∷ logs place.0))
 
+-- the roster has no ask of the desk's place
+desk_alike : (roster : Roster) (ask : Ask) → (place_of ask).0 ≡ 128 → serve_roster roster ask ≡ unmoved roster NoneAnswer
+desk_alike roster (Read dir name) at = refl
+desk_alike roster (ListAsk dir) at = refl
+desk_alike roster (Insert client dir name node ts) at = refl
+desk_alike roster (Put client place home) at = refl
+desk_alike roster (PutDir client place dir name) at = refl
+desk_alike roster (Settle node) at = refl
+desk_alike roster (TakeBack client node) at = refl
+desk_alike roster (End client) at = absurd (omega (arith, at))
+
 step-world : (a b : Bool) (order : List PlaceNo) (h : Held) (clients : ℕ → Progress) (c : ℕ) (p : Progress) (ask : Ask) (number : ℕ)
     → (let part = after_step (record { held = h; progress = p; order = order }) ask (serve_in a b h (ClientActor (client_of c)) ask number) in world_from part.order part.held (set_client clients c part.progress))
     ≡ step_in a b (world_from order h clients) c p ask number
@@ -41,8 +54,26 @@ step-world true b order h clients c p ask number = let more = woven_more (place_
     λ j. record (step_in true b (world_from order h clients) c p ask number) { run = more j }
 step-world false true order h clients c p ask number = let more = woven_more (place_of ask) (serve_in false true h (ClientActor (client_of c)) ask number).entry order h.logs in
     λ j. record (step_in false true (world_from order h clients) c p ask number) { run = more j }
-step-world false false order h clients c p ask number = let more = woven_more (place_of ask) (serve_in false false h (ClientActor (client_of c)) ask number).entry order h.logs in
-    λ j. record (step_in false false (world_from order h clients) c p ask number) { run = more j }
+step-world false false order h clients c p ask number = late ((place_of ask).0 == 128) refl
+  where
+    late : (b : Bool) → ((place_of ask).0 == 128) ≡ b
+        → (let part = after_step (record { held = h; progress = p; order = order }) ask (serve_late b h (ClientActor (client_of c)) ask number) in world_from part.order part.held (set_client clients c part.progress))
+        ≡ step_in false false (world_from order h clients) c p ask number
+    late false t = let more = woven_more (place_of ask) (serve_late false h (ClientActor (client_of c)) ask number).entry order h.logs in
+        λ j. record (step_in false false (world_from order h clients) c p ask number) { run = more j }
+    late true t =
+        let at : (place_of ask).0 ≡ 128 = grind (arith, nat_tests) in
+        let same = desk_alike h.roster ask at in
+        let e = serve_late true h (ClientActor (client_of c)) ask number in
+        (λ j. record {
+          shard = h.shard;
+          store = h.store;
+          roster = h.roster;
+          lasts = e.held.lasts;
+          clients = set_client clients c (hears p (place_of ask) e.entry);
+          run = woven_more (place_of ask) e.entry order h.logs j;
+        })
+        ∙ ap (λ (s : Served Roster). after_roster (world_from order h clients) c p ask number s) (sym same)
 
 turned-world : (order : List PlaceNo) (h : Held) (clients : ℕ → Progress) (c : ℕ) (p : Progress) (ask : Ask)
     → (let part = turned (client_of c) (record { held = h; progress = p; order = order }) (Some ask) in world_from part.order part.held (set_client clients c part.progress))

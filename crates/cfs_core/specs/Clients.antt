@@ -4,9 +4,10 @@ use Rattle.std.specs.List.{list_all, list_any}
 use Rattle.cfs_ids.specs.declared.ids.PlaceNo.{PlaceNo}
 use Rattle.cfs_ids.specs.declared.ids.Actor.{Actor}
 use Rattle.cfs_ids.specs.declared.ids.Actor.TheVariants.{Client}
+use Rattle.cfs_rules.specs.Facts.{Unlocked}
 use Rattle.cfs_rules.specs.Worlds.{World, Counts, AreCounts, Progress, starts}
 use Rattle.cfs_view.specs.declared.places.Places.{Places}
-use Rattle.cfs_view.specs.Views.{held, counts_of as places_of}
+use Rattle.cfs_view.specs.Views.{held, counts_of as places_of, IsService}
 use Rattle.cfs_core.specs.Weave.{world_from}
 use Rattle.cfs_core.specs.Counted.{IsCounted}
 use Rattle.cfs_core.specs.Reach.{progress_there, places_there}
@@ -36,10 +37,13 @@ world_in places states order = world_from (reverse order) (held places) (progres
 abbrev pub works_with : Counts → ClientState → Bool
 works_with counts state = ((counts_of state).shards == counts.shards) && ((counts_of state).stores == counts.stores)
 
--- the steps are counted, the clients know how many places there are, and what they ask and what was asked is there
+-- the places are all of a service, the steps are counted, the clients know how many places there are, what they ask and
+-- what was asked is there, and no lock stands in their way
 pub record IsSound (places : Places) (states : List ClientState) (order : List PlaceNo) : Type 0 where
+  pub service : IsService places
   pub counted : IsCounted (reverse order) (held places) (progress_in states)
   pub sized : AreCounts (places_of places)
   pub alike : list_all (works_with (places_of places)) states ≡ true
   pub there : (c : ℕ) → progress_there (places_of places) (progress_in states c) ≡ true
   pub asked : places_there (places_of places) order ≡ true
+  pub free : Unlocked (held places).shard

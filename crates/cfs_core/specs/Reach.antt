@@ -1,12 +1,10 @@
 -- The places that a client's calls ask are there.
-use Rattle.std.specs.Prelude.{ℕ, ◌%◌, List, Bool, true, ◌&&◌, nat_lt, Option, Some, None}
+use Rattle.std.specs.Prelude.{◌%◌, List, Bool, true, ◌&&◌, nat_lt, Option, Some, None}
 use Rattle.std.specs.List.{list_all}
 use Rattle.cfs_ids.specs.declared.ids.DirId.{DirId}
-use Rattle.cfs_ids.specs.declared.ids.FileId.{FileId}
 use Rattle.cfs_ids.specs.declared.ids.Node.{Node}
 use Rattle.cfs_ids.specs.declared.ids.Node.TheVariants.{Dir, File}
 use Rattle.cfs_ids.specs.declared.ids.PlaceNo.{PlaceNo}
-use Rattle.cfs_ids.specs.declared.call.Call.{Call}
 use Rattle.cfs_steps.specs.Phases.{Phase, Asking, Inserting, Settling, TakingBack, Finished}
 use Rattle.cfs_rules.specs.Worlds.{Counts, Progress, dir_of}
 use Rattle.cfs_view.specs.Held.{has_place}

@@ -5,9 +5,10 @@ ghost use Rattle.cfs_ids.specs.declared.ids.PlaceNo.{PlaceNo};
 ghost use Rattle.cfs_steps.specs.declared.entry.Entry.{Entry};
 ghost use Rattle.cfs_view.specs.Held.{has_place};
 ghost use Rattle.cfs_actor.specs.Clients.{counts_of as states_counts};
-ghost use Rattle.cfs_view.specs.Views.{held, counts_of};
+ghost use Rattle.cfs_view.specs.PlaceLists.{place_in};
+ghost use Rattle.cfs_view.specs.Views.{held, counts_of, places_of, IsService};
 ghost use Rattle.cfs_core.specs.Reach.{places_there};
-ghost use Rattle.cfs_core.specs.Ends.{logs_left, IsWithin, placed, calls_of_states};
+ghost use Rattle.cfs_core.specs.Ends.{count_shown, logs_left, IsWithin, placed, calls_of_states};
 ghost use Rattle.cfs_core.specs.Opening.{shown};
 ghost use Rattle.cfs_core.specs.Weave.{first_entry, without_first, taken, left as left_of, woven};
 
@@ -18,6 +19,9 @@ use cfs_ids::{NoMemory, PlaceNo};
 use cfs_steps::{ClientCalls, Entry};
 use cfs_view::Places;
 use std::alloc::Global;
+
+// Place numbers are below this.
+const PLACE_NUMBERS: u32 = 130;
 
 // A copy of the entry, where there is one.
 fn copy_of(entry: Option<&Entry>) -> Result<Option<Entry>, NoMemory>
@@ -45,49 +49,48 @@ fn take_newest(left: &mut usize, entry: Option<&Entry>) -> Result<Option<Entry>,
 
 // Takes the newest of the entries that are left of a place's log.
 fn take_at(places: &Places, left: &mut Left, place: PlaceNo) -> Result<Option<Entry>, NoMemory>
+    requires service { IsService places.now }
     requires there { has_place (counts_of places.now) place.0 ≡ true }
     requires within { IsWithin left.old places.now }
     ensures taken { IfOk result (λ newest. taken place (logs_left left.old places.now) ≡ placed place newest) }
     ensures left { OnOk result (logs_left left.new places.now ≡ left_of place (logs_left left.old places.now)) }
     ensures within { IsWithin left.new places.now }
 {
-    if place.0 < 64 {
-        let count = &mut left.shards[place.0 as usize];
-        let entry = places.shards()[place.0 as usize].entry(count.saturating_sub(1));
-        take_newest(count, entry)
-    } else if place.0 < 128 {
-        let count = &mut left.stores[place.0 as usize - 64];
-        let entry = places.stores()[place.0 as usize - 64].entry(count.saturating_sub(1));
-        take_newest(count, entry)
-    } else {
-        let entry = places.roster().entry(left.roster.saturating_sub(1));
-        take_newest(&mut left.roster, entry)
+    let count = &mut left.counts[place.0 as usize];
+    match places.get(place) {
+        Some(found) => take_newest(count, found.entry(count.saturating_sub(1))),
+        None => Ok(None),
+    }
+}
+
+// How many entries a place's log has: none where the service has no such place.
+fn count_at(places: &Places, place: PlaceNo) -> usize
+    requires { IsService places.now }
+    ensures { result ≡ count_shown (place_in (places_of places.now) place.0) }
+{
+    match places.get(place) {
+        Some(found) => found.count(),
+        None => 0,
     }
 }
 
 // How many entries the logs have.
 fn counted(alloc: Global, places: &Places) -> Result<Left, NoMemory>
+    requires { IsService places.now }
     ensures within { IfOk result (λ left. IsWithin left places.now) }
     ensures whole { IfOk result (λ left. logs_left left places.now ≡ (held places.now).logs) }
 {
-    let mut shards = Vec::new(alloc);
-    for shard in places.shards() {
-        shards.push(shard.count())?;
+    let mut counts = Vec::new(alloc);
+    for number in 0..PLACE_NUMBERS {
+        counts.push(count_at(places, PlaceNo(number)))?;
     }
-    let mut stores = Vec::new(alloc);
-    for store in places.stores() {
-        stores.push(store.count())?;
-    }
-    Ok(Left {
-        shards,
-        stores,
-        roster: places.roster().count(),
-    })
+    Ok(Left { counts })
 }
 
 /// The run of the logs, the oldest step first, where each place of the order is there.
 pub fn entries_of(alloc: Global, places: &Places, order: &[PlaceNo]) -> Result<EntryList, NoMemory>
-    requires { places_there (counts_of places.now) order.now ≡ true }
+    requires service { IsService places.now }
+    requires there { places_there (counts_of places.now) order.now ≡ true }
     ensures { IfOk result (λ entries. reverse entries ≡ woven (reverse order.now) (held places.now).logs) }
 {
     let mut left = counted(alloc, places)?;

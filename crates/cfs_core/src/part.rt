@@ -2,9 +2,10 @@
 ghost use Rattle.std.specs.Prelude.{◌≡◌, ◌≢◌, ◌+◌, ◌↔◌, true, false, Ok, Some, IfOk, IsTrue, OnErr, length, reverse};
 ghost use Rattle.cfs_steps.specs.declared.ask.Ask.{Ask};
 ghost use Rattle.cfs_steps.specs.Asks.{place_of};
+ghost use Rattle.cfs_rules.specs.Facts.{Unlocked};
 ghost use Rattle.cfs_rules.specs.Worlds.{AreCounts, next_ask};
 ghost use Rattle.cfs_view.specs.Held.{full};
-ghost use Rattle.cfs_view.specs.Views.{held, counts_of};
+ghost use Rattle.cfs_view.specs.Views.{held, counts_of, IsService};
 ghost use Rattle.cfs_core.specs.Clients.{works_with};
 ghost use Rattle.cfs_core.specs.Reach.{progress_there, places_there};
 ghost use Rattle.cfs_actor.specs.Clients.{client_of, progress_of, is_settled};
@@ -22,7 +23,9 @@ pub fn turn_client(
     order: &mut Vec<PlaceNo>,
     state: &mut ClientState,
 ) -> Result<Turned, NoMemory>
+    requires service { IsService places.old }
     requires sized { AreCounts (counts_of places.old) }
+    requires free { Unlocked (held places.old).shard }
     requires alike { works_with (counts_of places.old) state.old ≡ true }
     requires there { progress_there (counts_of places.old) (progress_of state.old) ≡ true }
     ensures stepped { result ≡ Ok Turned.Stepped → record { held = held places.new; progress = progress_of state.new; order = reverse order.new.items } ≡ turn_part (counts_of places.old) (client_of state.old) (record { held = held places.old; progress = progress_of state.old; order = reverse order.old.items }) }
@@ -34,6 +37,7 @@ pub fn turn_client(
     ensures same_progress { result ≢ Ok Turned.Stepped → progress_of state.new ≡ progress_of state.old }
     ensures same_order { result ≢ Ok Turned.Stepped → order.new.items ≡ order.old.items }
     ensures client { client_of state.new ≡ client_of state.old }
+    ensures service { IsService places.new }
     ensures counts { counts_of places.new ≡ counts_of places.old }
     ensures alike { works_with (counts_of places.old) state.new ≡ true }
     ensures there { progress_there (counts_of places.old) (progress_of state.new) ≡ true }

@@ -1,9 +1,10 @@
 //! Places and clients, turned step by step.
 ghost use Rattle.std.specs.Prelude.{◌≡◌, ◌≢◌, ◌≤◌, ◌↔◌, ◌+◌, IsTrue, true, false, Ok, Some, IfOk, IfErr};
 ghost use Rattle.std.proofs.Props.{props};
+ghost use Rattle.cfs_rules.proofs.OnlyOne.{AreNumbered-prop, AreOwnShards-prop, AreOwnStores-prop};
 ghost use Rattle.cfs_steps.specs.declared.ask.Ask.{Ask};
 ghost use Rattle.cfs_steps.specs.Asks.{place_of};
-ghost use Rattle.cfs_rules.specs.Worlds.{AreCounts, opening, turn};
+ghost use Rattle.cfs_rules.specs.Worlds.{AreCounts, client_of, opening, turn};
 ghost use Rattle.cfs_view.specs.Held.{opening_held, log_full};
 ghost use Rattle.cfs_view.specs.Views.{held, counts_of as places_of};
 ghost use Rattle.cfs_core.specs.Clients.{IsSound, number_in};
@@ -16,10 +17,18 @@ use crate::run::Run;
 use crate::turned::Turned;
 use crate::turning::turn_among;
 use cfs_actor::ClientState;
-use cfs_ids::{Actor, NoMemory, PlaceNo};
+use cfs_ids::{Actor, Client, NoMemory, PlaceNo};
 use cfs_script::Script;
 use cfs_view::Places;
 use std::alloc::Global;
+
+// The client that the actor is.
+fn client_in(actor: Actor) -> Client
+    ensures { result ≡ client_of (number_in actor) }
+{
+    let Actor::Client(client) = actor;
+    client
+}
 
 /// The places and the clients of a script, after some turns. It keeps the order in which the places were asked.
 #[derive(Drop)]
@@ -28,13 +37,14 @@ pub struct Core {
     places: Places,
     clients: Vec<ClientState>,
     order: Vec<PlaceNo>,
-    ghost sound: { IsSound places clients.items order.items } by { Prim.hlevel props },
+    ghost sound: { IsSound places clients.items order.items } by { Prim.hlevel (props, AreNumbered-prop, AreOwnShards-prop, AreOwnStores-prop) },
 }
 
 impl Core {
     ghost use Rattle.cfs_core.specs.Cores.{world_of, counts_of, members_of, is_member, steps_of, held_of, held_after, asked_of, AsksFull};
 
-    /// The core of a script of 1 to 64 shards and as many stores, before its first turn. The Err is want of memory.
+    /// The core of a script of 1 to 64 shards and 1 to 64 stores, before its first turn. The Err is want of
+    /// memory.
     pub fn begin(alloc: Global, script: &Script) -> Result<Core, NoMemory>
         requires { AreCounts (setup_of script.now).counts }
         ensures world { IfOk result (λ core. world_of core ≡ opening (setup_of script.now)) }
@@ -70,7 +80,7 @@ impl Core {
         ensures members { members_of self.new ≡ members_of self.old }
         ensures counts { counts_of self.new ≡ counts_of self.old }
     {
-        let Actor::Client(client) = actor;
+        let client = client_in(actor);
         turn_among(&mut self.places, &mut self.clients, &mut self.order, client)
     }
 

@@ -1,9 +1,11 @@
-//! The roster: the clients that ended, and a log.
+//! The desk and the roster: the clients that ended, and the logs of both.
 #![tactic(auto)]
 
 mod clients;
+mod desk;
 mod roster;
 #[cfg(test)]
 mod tests;
 
+pub use desk::Desk;
 pub use roster::Roster;

@@ -1,6 +1,6 @@
-//! Each call of a roster once, on values typed by hand.
-use crate::Roster;
-use cfs_ids::{Actor, Client, DirId};
+//! Each call of a desk and a roster once, on values typed by hand.
+use crate::{Desk, Roster};
+use cfs_ids::{Actor, Client, DirId, PlaceNo};
 use cfs_steps::{Answer, Ask};
 use std::test::Fail;
 
@@ -32,5 +32,30 @@ fn shows_its_log(rt: HostRuntime) -> Result<(), Fail> {
     };
     assert!(rt; matches!(&entry.answer, Answer::None));
     assert!(rt; !roster.has_ended(Client(1)));
+    Ok(())
+}
+
+#[test]
+fn the_desk_answers_none_and_logs(rt: HostRuntime) -> Result<(), Fail> {
+    let mut desk = Desk::new(rt.alloc())?;
+    assert_eq!(rt; (desk.count(), desk.last()), (0, 0));
+    let client = Client(3);
+    let ask = Ask::Put {
+        client,
+        at: PlaceNo(128),
+        home: DirId(0),
+    };
+    let served = desk.serve(Actor::Client(client), 7, &ask)?;
+    assert_eq!(rt; served.number, 8);
+    assert!(rt; matches!(&served.answer, Answer::None));
+    assert!(rt; served.moved.is_none());
+    assert_eq!(rt; (desk.count(), desk.last()), (1, 8));
+    assert!(rt; desk.entry(1).is_none());
+    let Some(entry) = desk.entry(0) else {
+        assert!(rt; false, "an entry");
+        return Ok(());
+    };
+    assert_eq!(rt; entry.number, 8);
+    assert!(rt; matches!(&entry.ask, Ask::Put { .. }));
     Ok(())
 }

@@ -28,6 +28,12 @@ find-within f d name [] = refl
 find-within f d name (([], x) ∷ es) = find-within f d name es
 find-within f d name ((k ∷ m, x) ∷ es) = grind (arith, nat_tests, find-within f d name es)
 
+-- and so are the values themselves
+pub find-within_all : {X : Type 0} (d : ℕ) (name : List ℕ) (es : List (List ℕ × X)) → find (slice_cmp nat_cmp) name (within d es) ≡ find (slice_cmp nat_cmp) (d ∷ name) es
+find-within_all d name [] = refl
+find-within_all d name (([], x) ∷ es) = find-within_all d name es
+find-within_all d name ((k ∷ m, x) ∷ es) = grind (arith, nat_tests, find-within_all d name es)
+
 pub find-map : {K X Y : Type 0} (R : K → K → Ordering) (f : K → X → Y) (q : K) (es : List (K × X)) → ((k : K) → R q k ≡ Equal → q ≡ k) → find R q (map (λ e. (e.0, f e.0 e.1)) es) ≡ option_map (f q) (find R q es)
 find-map R f q [] same = refl
 find-map R f q (e ∷ es) same = grind (arith, find-map R f q es same, same e.0)

@@ -23,6 +23,26 @@ pub struct Client(pub u32);
 #[derive(Clone, Copy, Debug, PartialEq, Eq, PartialOrd, Ord)]
 pub struct PlaceNo(pub u32);
 
+/// The number of a job of the Renamer, from 1.
+#[derive(Clone, Copy, Debug, PartialEq, Eq, PartialOrd, Ord)]
+pub struct JobNo(pub u64);
+
+/// What a job locks a directory's record for: to move the directory, or to replace it.
+#[derive(Clone, Copy, Debug, PartialEq, Eq)]
+pub enum Kind {
+    Moving,
+    Replacing,
+}
+
+/// Which name of a job a lock keeps: the one that it gives up, or the one that it takes, which is committed once the
+/// job's move is made.
+#[derive(Clone, Copy, Debug, PartialEq, Eq)]
+pub enum Side {
+    Source,
+    Target,
+    Committed,
+}
+
 /// Who makes a step.
 #[derive(Clone, Copy, Debug, PartialEq, Eq)]
 pub enum Actor {

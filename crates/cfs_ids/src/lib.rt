@@ -15,7 +15,7 @@ mod time;
 pub use attributes::{Delta, DirAttr, any_cut_folds_alike, any_order_folds_alike, fold};
 pub use call::{Call, Reply};
 pub use errno::{Errno, errno_of, errno_text};
-pub use ids::{Actor, At, Client, DirId, FileId, Node, PlaceNo, Stamp};
+pub use ids::{Actor, At, Client, DirId, FileId, JobNo, Kind, Node, PlaceNo, Side, Stamp};
 pub use memory::NoMemory;
 pub use name::{Name, NameFault};
 pub use rows::RowList;

@@ -27,11 +27,12 @@ use Rattle.cfs_steps.specs.declared.answer.Answer.TheVariants.{NoDir, Exists, Do
 use Rattle.cfs_steps.specs.declared.call_done.CallDone.{CallDone}
 use Rattle.cfs_steps.specs.Asks.{place_of, home_of}
 use Rattle.cfs_steps.specs.Phases.{Phase, Asking, Inserting, Settling, TakingBack, Finished, maker, shard_place, store_place}
-use Rattle.cfs_rules.specs.Places.{Shard, Store, Served, with_recs, number_after, unmoved, read_row, list_rows, inserted, settled, settle_owner, settled_dir, settle_dir_owner, taken_back, take_owned, taken_back_dir, take_owned_dir, serve_shard, serve_store, serve_roster}
+use Rattle.cfs_rules.specs.Places.{Shard, Store, Served, with_recs, number_after, unmoved, read_row, list_rows, inserted, settled, settle_owner, settled_dir, settle_dir_owner, taken_back, take_owned, taken_back_dir, take_owned_dir, serve_free, serve_store, serve_roster}
 use Rattle.cfs_rules.specs.Trees.{is_shown, tree}
-use Rattle.cfs_rules.specs.Facts.{space}
+use Rattle.cfs_rules.specs.Facts.{space, Unlocked}
 use Rattle.cfs_rules.specs.Known.{Known, Sees, reply_of_row, reply_of_list, reply_of_create}
 use Rattle.cfs_rules.specs.Worlds.{World, Counts, AreCounts, Setup, IsSetup, IsCount, Progress, client_of, entry_of, first_of, hears, set_client, set_last, opening, stamped, after_shard, after_store, step, turn_of, turn, run_of, played}
+use Rattle.cfs_rules.proofs.Locks.{serve_shard-unlocked}
 use Rattle.cfs_laws.proofs.Pasts.{ClientPast, IsOthers, ClientPast-grown}
 use Rattle.cfs_laws.proofs.Creates.{begin, settle}
 use Rattle.cfs_laws.proofs.Replied.{answer_now, refuse_now, end_refused, end_moved}
@@ -84,10 +85,10 @@ module _ (w : World) (c : ℕ) (waiting : List Call) (last puts : ℕ) (done : L
       (λ fresh. begin w.run _ c done (Create dir name) dir name _ number (stamped number ask) fresh (own_stamp number (64 + index)) tt h)
 
   put_dir_past : (dir : DirId) (name : List ℕ) (index : ℕ) → IsNewer (PutDir (client_of c) (shard_place index) dir name) → ClientPast w.run c done (Some (Asking (Mkdir dir name)))
-      → Past (after_shard w c (at_phase (Asking (Mkdir dir name))) (PutDir (client_of c) (shard_place index) dir name) number (serve_shard w.shard (stamped number (PutDir (client_of c) (shard_place index) dir name)) (PutDir (client_of c) (shard_place index) dir name)))
+      → Past (after_shard w c (at_phase (Asking (Mkdir dir name))) (PutDir (client_of c) (shard_place index) dir name) number (serve_free w.shard (stamped number (PutDir (client_of c) (shard_place index) dir name)) (PutDir (client_of c) (shard_place index) dir name)))
   put_dir_past dir name index new h =
       let ask = PutDir (client_of c) (shard_place index) dir name in
-      past_step w c (at_phase (Asking (Mkdir dir name))) ask number (serve_shard w.shard (stamped number ask) ask) past new tt
+      past_step w c (at_phase (Asking (Mkdir dir name))) ask number (serve_free w.shard (stamped number ask) ask) past new tt
       (λ fresh. begin w.run _ c done (Mkdir dir name) dir name _ number (stamped number ask) fresh (own_stamp number index) tt h)
 
   insert_past : (dir : DirId) (name : List ℕ) (node : Node) (ts : ℕ) (first : Stamp) → is_shown w.shard dir.0 ≡ true → (r : Option DirRec) → get w.shard.recs dir.0 ≡ r → (row : Option Row) → get w.shard.rows (row_key dir name) ≡ row
@@ -155,9 +156,9 @@ taken_back_dir_moved s client dir (Some r) = owned r.owner
     owned (Some c) = either_unmoved (c.0 == client.0) (unmoved (with_recs s (remove s.recs dir.0)) (Done None)) (unmoved s NoneAnswer) refl refl
 
 -- ---- the kind of the place that is asked
-in_a_shard : (w : World) (c : ℕ) (p : Progress) (ask : Ask) → nat_lt (place_of ask).0 64 ≡ true
-    → Past (after_shard w c p ask (number_after p.last (w.lasts (place_of ask).0)) (serve_shard w.shard (stamped (number_after p.last (w.lasts (place_of ask).0)) ask) ask)) → Past (step w c p ask)
-in_a_shard w c p ask here h = rw here h
+in_a_shard : (w : World) → Unlocked w.shard → (c : ℕ) (p : Progress) (ask : Ask) → nat_lt (place_of ask).0 64 ≡ true
+    → Past (after_shard w c p ask (number_after p.last (w.lasts (place_of ask).0)) (serve_free w.shard (stamped (number_after p.last (w.lasts (place_of ask).0)) ask) ask)) → Past (step w c p ask)
+in_a_shard w free c p ask here h = rw here (subst (λ (s : Served Shard). Past (after_shard w c p ask (number_after p.last (w.lasts (place_of ask).0)) s)) (sym (serve_shard-unlocked w.shard free (stamped (number_after p.last (w.lasts (place_of ask).0)) ask) ask)) h)
 
 in_a_store : (w : World) (c : ℕ) (p : Progress) (ask : Ask) → nat_lt (place_of ask).0 64 ≡ false → nat_lt (place_of ask).0 128 ≡ true
     → Past (after_store w c p ask (number_after p.last (w.lasts (place_of ask).0)) (serve_store w.store (stamped (number_after p.last (w.lasts (place_of ask).0)) ask) ask)) → Past (step w c p ask)
@@ -187,9 +188,9 @@ module _ (counts : Counts) (good : AreCounts counts) (w : World) (c : ℕ) (wait
 
   phase_past : (phase : Phase) → Sees w.shard (Some phase) → ClientPast w.run c done (Some phase) → Past (turn_of counts w c (phase_at phase))
   phase_past (Asking (Lookup dir name)) sees h =
-      in_a_shard w c (phase_at (Asking (Lookup dir name))) (Read dir name) (shard_low dir.0) (lookup_past w c waiting last puts done (number_of (Read dir name)) known past dir name sees _ refl (newer (Read dir name)) h)
+      in_a_shard w known.free c (phase_at (Asking (Lookup dir name))) (Read dir name) (shard_low dir.0) (lookup_past w c waiting last puts done (number_of (Read dir name)) known past dir name sees _ refl (newer (Read dir name)) h)
   phase_past (Asking (ListCall dir)) sees h =
-      in_a_shard w c (phase_at (Asking (ListCall dir))) (ListAsk dir) (shard_low dir.0) (list_past w c waiting last puts done (number_of (ListAsk dir)) known past dir sees _ refl (newer (ListAsk dir)) h)
+      in_a_shard w known.free c (phase_at (Asking (ListCall dir))) (ListAsk dir) (shard_low dir.0) (list_past w c waiting last puts done (number_of (ListAsk dir)) known past dir sees _ refl (newer (ListAsk dir)) h)
   phase_past (Asking (Create dir name)) sees h =
       let index = (c + puts) % counts.stores in
       let ask = Put (client_of c) (store_place index) dir in
@@ -199,15 +200,15 @@ module _ (counts : Counts) (good : AreCounts counts) (w : World) (c : ℕ) (wait
       let index = (c + puts) % counts.shards in
       let ask = PutDir (client_of c) (shard_place index) dir name in
       let low = low_index counts.shards good.shards in
-      in_a_shard w c (phase_at (Asking (Mkdir dir name))) ask (grind (arith, nat_tests, low)) (put_dir_past w c waiting last puts done (number_of ask) known past dir name index (newer ask) h)
+      in_a_shard w known.free c (phase_at (Asking (Mkdir dir name))) ask (grind (arith, nat_tests, low)) (put_dir_past w c waiting last puts done (number_of ask) known past dir name index (newer ask) h)
   phase_past (Inserting dir name node ts first) sees h =
       let ask = Insert (client_of c) dir name node ts in
-      in_a_shard w c (phase_at (Inserting dir name node ts first)) ask (shard_low dir.0) (insert_past w c waiting last puts done (number_of ask) known past dir name node ts first sees _ refl _ refl (newer ask) h)
+      in_a_shard w known.free c (phase_at (Inserting dir name node ts first)) ask (shard_low dir.0) (insert_past w c waiting last puts done (number_of ask) known past dir name node ts first sees _ refl _ refl (newer ask) h)
   phase_past (Settling dir name (File f) ts first at) sees h =
       in_a_store w c (phase_at (Settling dir name (File f) ts first at)) (Settle (File f)) (store_above (f.0 % 64)) (store_low f.0)
       (settle_past w c waiting last puts done (number_of (Settle (File f))) known past dir name (File f) ts first at (settled w.store f (get w.store f.0)) (settled_moved w.store f (get w.store f.0)) (newer (Settle (File f))) h)
   phase_past (Settling dir name (Dir d) ts first at) sees h =
-      in_a_shard w c (phase_at (Settling dir name (Dir d) ts first at)) (Settle (Dir d)) (shard_low d.0)
+      in_a_shard w known.free c (phase_at (Settling dir name (Dir d) ts first at)) (Settle (Dir d)) (shard_low d.0)
       (settle_past w c waiting last puts done (number_of (Settle (Dir d))) known past dir name (Dir d) ts first at (settled_dir w.shard d (get w.shard.recs d.0)) (settled_dir_moved w.shard d (get w.shard.recs d.0)) (newer (Settle (Dir d))) h)
   phase_past (TakingBack dir name (File f) errno first at) sees h =
       let ask = TakeBack (client_of c) (File f) in
@@ -215,7 +216,7 @@ module _ (counts : Counts) (good : AreCounts counts) (w : World) (c : ℕ) (wait
       (take_back_past w c waiting last puts done (number_of ask) known past dir name (File f) errno first at (taken_back w.store (client_of c) f (get w.store f.0)) (taken_back_moved w.store (client_of c) f (get w.store f.0)) (newer ask) h)
   phase_past (TakingBack dir name (Dir d) errno first at) sees h =
       let ask = TakeBack (client_of c) (Dir d) in
-      in_a_shard w c (phase_at (TakingBack dir name (Dir d) errno first at)) ask (shard_low d.0)
+      in_a_shard w known.free c (phase_at (TakingBack dir name (Dir d) errno first at)) ask (shard_low d.0)
       (take_back_past w c waiting last puts done (number_of ask) known past dir name (Dir d) errno first at (taken_back_dir w.shard (client_of c) d (get w.shard.recs d.0)) (taken_back_dir_moved w.shard (client_of c) d (get w.shard.recs d.0)) (newer ask) h)
   phase_past (Finished d) sees h = absurd h.phase
 

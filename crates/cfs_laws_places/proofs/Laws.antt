@@ -18,32 +18,24 @@ use Rattle.cfs_steps.specs.declared.contents.Row.{Row}
 use Rattle.cfs_steps.specs.declared.contents.DirRec.{DirRec}
 use Rattle.cfs_steps.specs.declared.contents.FileRec.{FileRec}
 use Rattle.cfs_steps.specs.Phases.{Phase, Asking, Inserting, Settling, TakingBack, Finished}
-use Rattle.cfs_rules.specs.Places.{Shard, Store, opening_shard, empty_attr}
+use Rattle.cfs_rules.specs.Places.{Shard, Store, opening_shard, root_rec}
 use Rattle.cfs_rules.specs.Worlds.{World, Setup, IsSetup, opening, turn, played}
 use Rattle.cfs_rules.specs.Trees.{is_shown, tree, directory_of, facts_of, is_counted}
-use Rattle.cfs_rules.specs.Facts.{CountsHold, Counted, HasRecord, AttributesHold, MovesAllowed, after_moved, space}
+use Rattle.cfs_rules.specs.Facts.{CountsHold, Counted, HasRecord, AttributesHold, MovesAllowed, Unlocked, after_moved, space}
 use Rattle.cfs_rules.specs.Known.{Known, Sees}
 use Rattle.cfs_laws_places.specs.Turns.{GrowsByOne, KeepsUnmoved, KeepsStill}
 use Rattle.cfs_laws_places.proofs.Invariant.{owner_at, Has, number_of, CurrentHolds, Holds, Past, first_holds, rest_in_root, from_insert, get-insert_same, get-insert_other}
 use Rattle.cfs_laws_places.proofs.Nodes.{names_same}
+use Rattle.cfs_ids.proofs.Entries.{entries-empty}
+use Rattle.cfs_rules.proofs.Locks.{opening-unlocked, played-unlocked}
 use Rattle.cfs_rules.proofs.TreeLookups.{get-tree_dirs, get-tree_files}
 use Rattle.cfs_laws_places.proofs.Trees.{no_names, or_true}
 use Rattle.cfs_laws_places.proofs.Told.{lookup_told, list_told, make_told}
 use Rattle.cfs_laws_places.proofs.Turns.{next_of, run_keeps, run_past, shown_has}
 
 -- ---- the opening
-no_entries : {A : Type 0} (xs : List A) → length xs ≡ 0 → xs ≡ []
-no_entries [] e = refl
-no_entries (x ∷ xs) e = cc
-
-entries-empty : {K X : Type 0} (R : K → K → Ordering) → entries (empty {X = X} {R = R}) ≡ []
-entries-empty {K} {X} R = no_entries _ (sym (len-entries (empty {X = X} {R = R})) ∙ len-empty R X)
-
 no_rows : entries (empty {X = Row} {R = slice_cmp nat_cmp}) ≡ []
 no_rows = entries-empty {X = Row} (slice_cmp nat_cmp)
-
-abbrev root_rec : DirRec
-root_rec = record { attr = empty_attr; back = None; owner = None }
 
 opening_counts : (d : ℕ) (r : DirRec) → get opening_shard.recs d ≡ Some r → Counted opening_shard d r
 opening_counts d r e = let s = from_insert empty 0 d root_rec r e in
@@ -118,10 +110,11 @@ sees_of shard store c (Some (Settling dir name node ts first at)) h = tt
 sees_of shard store c (Some (TakingBack dir name node errno first at)) h = tt
 sees_of shard store c (Some (Finished done)) h = tt
 
-known_by : (w : World) → Holds w → Past w → Known w
-known_by w h past = record {
+known_by : (w : World) → Unlocked w.shard → Holds w → Past w → Known w
+known_by w free h past = record {
   same = past.same;
   allowed = past.allowed;
+  free = free;
   sees = λ c. sees_of w.shard w.store c (w.clients c).current (h.clients c);
   lookup = lookup_told w.shard w.store (λ d name row e. shown_has w.shard w.store w.lasts h.places d (h.places.housed d name row e));
   listed = list_told w.shard w.store;
@@ -160,13 +153,13 @@ still_by w w' past past' run = past'.same ∙ ap space run ∙ sym past.same
 
 module _ (setup : Setup) (good : IsSetup setup) (turns : List ℕ) where
   holds_now : Holds (played setup turns)
-  holds_now = run_keeps setup.counts good.counts turns (opening setup) (opening_holds setup good)
+  holds_now = run_keeps setup.counts good.counts turns (opening setup) opening-unlocked (opening_holds setup good)
 
   past_now : Past (played setup turns)
-  past_now = run_past setup.counts good.counts turns (opening setup) (opening_holds setup good) (record { same = opening_tree; allowed = tt })
+  past_now = run_past setup.counts good.counts turns (opening setup) opening-unlocked (opening_holds setup good) (record { same = opening_tree; allowed = tt })
 
   pub known_of : Known (played setup turns)
-  known_of = known_by (played setup turns) holds_now past_now
+  known_of = known_by (played setup turns) (played-unlocked setup turns) holds_now past_now
 
   pub tree_of : tree (played setup turns).shard (played setup turns).store ≡ space (played setup turns).run
   tree_of = past_now.same
@@ -183,10 +176,10 @@ module _ (setup : Setup) (good : IsSetup setup) (turns : List ℕ) where
   -- ---- one more turn
   module _ (c : ℕ) where
     after_turn : Past (turn setup.counts (played setup turns) c)
-    after_turn = (next_of setup.counts good.counts (played setup turns) c holds_now).past past_now
+    after_turn = (next_of setup.counts good.counts (played setup turns) c (played-unlocked setup turns) holds_now).past past_now
 
     pub one_step_of : GrowsByOne (played setup turns) (turn setup.counts (played setup turns) c)
-    one_step_of = (next_of setup.counts good.counts (played setup turns) c holds_now).grows
+    one_step_of = (next_of setup.counts good.counts (played setup turns) c (played-unlocked setup turns) holds_now).grows
 
     pub unmoved_of : KeepsUnmoved (played setup turns) (turn setup.counts (played setup turns) c)
     unmoved_of = unmoved_by (played setup turns) (turn setup.counts (played setup turns) c) past_now after_turn

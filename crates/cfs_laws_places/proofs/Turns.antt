@@ -30,13 +30,15 @@ use Rattle.cfs_steps.specs.declared.moves.Moved.TheVariants.{Move}
 use Rattle.cfs_steps.specs.declared.call_done.CallDone.{CallDone}
 use Rattle.cfs_steps.specs.Asks.{place_of, home_of}
 use Rattle.cfs_steps.specs.Phases.{Phase, Asking, Inserting, Settling, TakingBack, Finished, heard, maker, shard_place, store_place}
-use Rattle.cfs_rules.specs.Places.{Shard, Store, Served, made_at, number_after, with_row, with_recs, inserted, settled, settled_dir, taken_back, taken_back_dir, put_file, put_dir, new_file, new_dir, read_row, list_rows, unmoved, serve_shard, serve_store}
+use Rattle.cfs_rules.specs.Places.{Shard, Store, Served, made_at, number_after, with_row, with_recs, inserted, settled, settled_dir, taken_back, taken_back_dir, put_file, put_dir, new_file, new_dir, read_row, list_rows, unmoved, serve_free, serve_store}
 use Rattle.cfs_rules.specs.Worlds.{World, Counts, AreCounts, IsCount, Progress, AreInRoot, client_of, hears, after_entry, with_phase, entry_of, set_last, stamped, after_shard, after_store, step, turn_of, turn, run_of}
 use Rattle.cfs_rules.specs.Trees.{tree, is_shown, directory_of, facts_of}
-use Rattle.cfs_rules.specs.Facts.{IsAllowed, after_moved, space}
+use Rattle.cfs_rules.specs.Facts.{IsAllowed, after_moved, space, Unlocked}
+use Rattle.cfs_rules.proofs.Locks.{serve_shard-unlocked, turn-unlocked}
+use Rattle.cfs_rules.proofs.Empties.{no_children, no_subdirs}
 use Rattle.cfs_laws_places.specs.Turns.{GrowsByOne}
 use Rattle.cfs_laws_places.proofs.Invariant.{owner_at, number_of, is_named_node, Owns, MayInsert, PhaseHolds, CurrentHolds, PlacesHold, Holds, Past, Keeps, first_holds, rest_in_root, clients_keep, waiting_keep, get-insert_same, get-insert_other, get-remove_other}
-use Rattle.cfs_laws_places.proofs.Nodes.{two_nodes, unshown, no_rows_in, no_children, no_subdirs}
+use Rattle.cfs_laws_places.proofs.Nodes.{two_nodes, unshown, no_rows_in}
 use Rattle.cfs_laws_places.proofs.Changes.{Replaces, replaced_others, replaced_places, raise, raised, last_set, insert_places, insert_others, insert_own}
 use Rattle.cfs_rules.proofs.TreeLookups.{get-tree_dirs, get-tree_files}
 use Rattle.cfs_laws_places.proofs.Trees.{dirs_alike, dirs-with_file, dirs-with_dir, files-with_file, files-with_dir, files-put, files-settle, files-take_back}
@@ -239,7 +241,7 @@ hidden_dir shard store lasts d h name owned = by_test (d == 0) refl name
     by_test false t n = n
 
 -- ---- the steps of a client in a call
-module _ (counts : Counts) (good : AreCounts counts) (w : World) (c : ℕ) (waiting : List Call) (last puts : ℕ) (done : List CallDone) (h : Holds w) (wait : AreInRoot waiting) where
+module _ (counts : Counts) (good : AreCounts counts) (w : World) (c : ℕ) (waiting : List Call) (last puts : ℕ) (done : List CallDone) (free : Unlocked w.shard) (h : Holds w) (wait : AreInRoot waiting) where
   abbrev at_phase : Phase → Progress
   at_phase phase = record { current = Some phase; waiting = waiting; ended = false; last = last; puts = puts; done = done }
 
@@ -385,9 +387,9 @@ module _ (counts : Counts) (good : AreCounts counts) (w : World) (c : ℕ) (wait
   newer ask = omega arith
 
   in_shard : (phase : Phase) (ask : Ask) → nat_lt (place_of ask).0 64 ≡ true
-      → Next w (after_shard w c (at_phase phase) ask (number_after last (w.lasts (place_of ask).0)) (serve_shard w.shard (stamped (number_after last (w.lasts (place_of ask).0)) ask) ask))
+      → Next w (after_shard w c (at_phase phase) ask (number_after last (w.lasts (place_of ask).0)) (serve_free w.shard (stamped (number_after last (w.lasts (place_of ask).0)) ask) ask))
       → Next w (step w c (at_phase phase) ask)
-  in_shard phase ask is next = rw is next
+  in_shard phase ask is next = rw is (subst (λ (s : Served Shard). Next w (after_shard w c (at_phase phase) ask (number_after last (w.lasts (place_of ask).0)) s)) (sym (serve_shard-unlocked w.shard free (stamped (number_after last (w.lasts (place_of ask).0)) ask) ask)) next)
 
   in_store : (phase : Phase) (ask : Ask) → nat_lt (place_of ask).0 64 ≡ false → nat_lt (place_of ask).0 128 ≡ true
       → Next w (after_store w c (at_phase phase) ask (number_after last (w.lasts (place_of ask).0)) (serve_store w.store (stamped (number_after last (w.lasts (place_of ask).0)) ask) ask))
@@ -424,10 +426,10 @@ module _ (counts : Counts) (good : AreCounts counts) (w : World) (c : ℕ) (wait
   phase_next (Finished done) own = absurd own
 
 -- ---- a turn
-turn_next : (counts : Counts) → AreCounts counts → (w : World) (c : ℕ) (current : Option Phase) (waiting : List Call) (ended : Bool) (last puts : ℕ) (done : List CallDone) → Holds w → AreInRoot waiting → CurrentHolds w.shard w.store c current
+turn_next : (counts : Counts) → AreCounts counts → (w : World) (c : ℕ) (current : Option Phase) (waiting : List Call) (ended : Bool) (last puts : ℕ) (done : List CallDone) → Unlocked w.shard → Holds w → AreInRoot waiting → CurrentHolds w.shard w.store c current
     → Next w (turn_of counts w c (record { current = current; waiting = waiting; ended = ended; last = last; puts = puts; done = done }))
-turn_next counts good w c current waiting true last puts done h wait own = record { holds = h; past = λ past. past; grows = inl refl }
-turn_next counts good w c None waiting false last puts done h wait own = record {
+turn_next counts good w c current waiting true last puts done free h wait own = record { holds = h; past = λ past. past; grows = inl refl }
+turn_next counts good w c None waiting false last puts done free h wait own = record {
   holds = record {
     places = raise w.shard w.store w.lasts _ (raised w.lasts 129 (number_after last (w.lasts 129)) (omega arith)) h.places;
     clients = clients_keep w.shard w.shard w.store w.store w.clients c _ (λ i d o x. x) tt h.clients;
@@ -436,15 +438,15 @@ turn_next counts good w c None waiting false last puts done h wait own = record 
   past = λ past. record { same = past.same; allowed = (tt, past.allowed) };
   grows = inr (_, refl);
 }
-turn_next counts good w c (Some phase) waiting false last puts done h wait own = phase_next counts good w c waiting last puts done h wait phase own
+turn_next counts good w c (Some phase) waiting false last puts done free h wait own = phase_next counts good w c waiting last puts done free h wait phase own
 
-pub next_of : (counts : Counts) → AreCounts counts → (w : World) (c : ℕ) → Holds w → Next w (turn counts w c)
-next_of counts good w c h = let p = w.clients c in turn_next counts good w c p.current p.waiting p.ended p.last p.puts p.done h (h.waiting c) (h.clients c)
+pub next_of : (counts : Counts) → AreCounts counts → (w : World) (c : ℕ) → Unlocked w.shard → Holds w → Next w (turn counts w c)
+next_of counts good w c free h = let p = w.clients c in turn_next counts good w c p.current p.waiting p.ended p.last p.puts p.done free h (h.waiting c) (h.clients c)
 
-pub run_keeps : (counts : Counts) → AreCounts counts → (cs : List ℕ) (w : World) → Holds w → Holds (run_of counts cs w)
-run_keeps counts good [] w h = h
-run_keeps counts good (c ∷ cs) w h = run_keeps counts good cs (turn counts w c) (next_of counts good w c h).holds
+pub run_keeps : (counts : Counts) → AreCounts counts → (cs : List ℕ) (w : World) → Unlocked w.shard → Holds w → Holds (run_of counts cs w)
+run_keeps counts good [] w free h = h
+run_keeps counts good (c ∷ cs) w free h = run_keeps counts good cs (turn counts w c) (turn-unlocked counts w c free) (next_of counts good w c free h).holds
 
-pub run_past : (counts : Counts) → AreCounts counts → (cs : List ℕ) (w : World) → Holds w → Past w → Past (run_of counts cs w)
-run_past counts good [] w h past = past
-run_past counts good (c ∷ cs) w h past = let next = next_of counts good w c h in run_past counts good cs (turn counts w c) next.holds (next.past past)
+pub run_past : (counts : Counts) → AreCounts counts → (cs : List ℕ) (w : World) → Unlocked w.shard → Holds w → Past w → Past (run_of counts cs w)
+run_past counts good [] w free h past = past
+run_past counts good (c ∷ cs) w free h past = let next = next_of counts good w c free h in run_past counts good cs (turn counts w c) (turn-unlocked counts w c free) next.holds (next.past past)

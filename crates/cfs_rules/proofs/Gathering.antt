@@ -1,17 +1,17 @@
 -- A shard serves an ask of its own as all shards together do, and so does a store.
-use Rattle.std.proofs.Common.{◌≡◌, ◌≢◌, ℕ, ◌+◌, ◌*◌, ◌%◌, ◌<◌, List, ◌∷◌, Bool, true, false, cond, refl, sym, ◌∙◌, ap, subst, arith}
+use Rattle.std.proofs.Common.{◌≡◌, ◌≢◌, ℕ, ◌+◌, ◌%◌, ◌<◌, List, ◌∷◌, Bool, true, false, cond, refl, sym, ◌∙◌, ap, subst, arith}
 use Rattle.std.specs.Prelude.{◌==◌, if◌then◌else◌, Option, Some, None}
 use Rattle.std.specs.Option.{option_map}
-use Rattle.std.proofs.lemmas.Bool.Decides.{nat_tests}
 use Rattle.std.specs.declared.cmp.Ordering.{Ordering}
 use Rattle.std.specs.declared.cmp.Ordering.TheVariants.{Less, Equal, Greater}
-use Rattle.std.specs.Ordering.{nat_cmp, eq_by_cmp, is_eq}
+use Rattle.std.specs.Ordering.{eq_by_cmp, is_eq}
 use Rattle.std.specs.Cmp.{IsTotalOrder, nat_cmp_total}
-use Rattle.std.specs.Cmp.Lexicographic.{slice_cmp, nat_list_cmp_total}
+use Rattle.std.specs.Cmp.Lexicographic.{nat_list_cmp_total}
 use Rattle.std.specs.FinMap.{FinMap, IsAntisymmetric, get, insert, remove, entries, get-insert, get-remove, same_map, nat_cmp-IsAntisymmetric}
 use Rattle.cfs_ids.specs.declared.ids.DirId.{DirId}
 use Rattle.cfs_ids.specs.declared.ids.FileId.{FileId}
 use Rattle.cfs_ids.specs.declared.ids.Client.{Client}
+use Rattle.cfs_ids.specs.declared.ids.JobNo.{JobNo}
 use Rattle.cfs_ids.specs.declared.ids.Stamp.{Stamp}
 use Rattle.cfs_ids.specs.declared.ids.Node.{Node}
 use Rattle.cfs_ids.specs.declared.ids.Node.TheVariants.{Dir, File}
@@ -23,11 +23,11 @@ use Rattle.cfs_steps.specs.declared.ask.Ask.{Ask}
 use Rattle.cfs_steps.specs.declared.ask.Ask.TheVariants.{Read, List as ListAsk, Insert, Put, PutDir, Settle, TakeBack, End}
 use Rattle.cfs_steps.specs.declared.answer.Answer.{Answer}
 use Rattle.cfs_steps.specs.declared.answer.Answer.TheVariants.{Rows, Done, None as NoneAnswer}
-use Rattle.cfs_steps.specs.declared.moves.Moved.{Moved}
 use Rattle.cfs_steps.specs.Asks.{place_of}
-use Rattle.cfs_rules.specs.Places.{Shard, Store, Served, unmoved, made_at, names_of, read_row, with_recs, updated, inserted, list_rows, put_dir, new_dir, settle_dir_owner, settled_dir, take_owned_dir, taken_back_dir, serve_shard, put_file, new_file, settle_owner, settled, take_owned, taken_back, serve_store}
-use Rattle.cfs_rules.specs.Homes.{home_of_row, home_of_number, LieAt, IsOwnShard, IsOwnStore}
-use Rattle.cfs_rules.proofs.Names.{bytes_apart, get-names_of}
+use Rattle.cfs_rules.specs.Places.{Shard, Store, Served, unmoved, made_at, names_of, read_row, with_recs, updated, inserted, list_rows, new_dir, settle_dir_owner, settled_dir, take_owned_dir, taken_back_dir, serve_free, serve_shard, unless_locked, new_file, settle_owner, settled, take_owned, taken_back, serve_store}
+use Rattle.cfs_rules.specs.Locks.{job_of, source_job, locks_in, first_source, met_in, lock_met}
+use Rattle.cfs_rules.specs.Homes.{home_of_row, home_of_number, LieAt}
+use Rattle.cfs_rules.proofs.Names.{bytes_apart, get-names_of, get-locks_in}
 
 -- ---- a map of one place, and a map that has the same at the place's keys
 pub record Agrees {K X : Type 0} {R : K → K → Ordering} (home : K → ℕ) (index : ℕ) (m w : FinMap R X) : Type 0 where
@@ -87,6 +87,7 @@ module _ {K X : Type 0} {R : K → K → Ordering} (o : IsTotalOrder R) (same : 
 pub record AgreesShard (index : ℕ) (s w : Shard) : Type 0 where
   pub rows : Agrees home_of_row index s.rows w.rows
   pub recs : Agrees home_of_number index s.recs w.recs
+  pub locks : Agrees home_of_row index s.locks w.locks
 
 -- what the shard gives and what all together give
 pub record ServesShard (index : ℕ) (w : Shard) (own all : Served Shard) : Type 0 where
@@ -94,16 +95,20 @@ pub record ServesShard (index : ℕ) (w : Shard) (own all : Served Shard) : Type
   pub moved : all.moved ≡ own.moved
   pub rows : Moves home_of_row index w.rows own.contents.rows all.contents.rows
   pub recs : Moves home_of_number index w.recs own.contents.recs all.contents.recs
+  pub locks : Moves home_of_row index w.locks own.contents.locks all.contents.locks
 
 module _ (index : ℕ) (s w : Shard) (a : AgreesShard index s w) where
+  locks_still : Moves home_of_row index w.locks s.locks w.locks
+  locks_still = still nat_list_cmp_total bytes_apart home_of_row index s.locks w.locks a.locks
+
   looks : (answer answer' : Answer) → answer' ≡ answer → ServesShard index w (unmoved s answer) (unmoved w answer')
-  looks answer answer' e = record { answer = e; moved = refl; rows = still nat_list_cmp_total bytes_apart home_of_row index s.rows w.rows a.rows; recs = still nat_cmp_total nat_cmp-IsAntisymmetric home_of_number index s.recs w.recs a.recs }
+  looks answer answer' e = record { answer = e; moved = refl; rows = still nat_list_cmp_total bytes_apart home_of_row index s.rows w.rows a.rows; recs = still nat_cmp_total nat_cmp-IsAntisymmetric home_of_number index s.recs w.recs a.recs; locks = locks_still }
 
   sets : (d : ℕ) (v : DirRec) (answer : Answer) → home_of_number d ≡ index → ServesShard index w (unmoved (with_recs s (insert s.recs d v)) answer) (unmoved (with_recs w (insert w.recs d v)) answer)
-  sets d v answer at = record { answer = refl; moved = refl; rows = still nat_list_cmp_total bytes_apart home_of_row index s.rows w.rows a.rows; recs = set_one nat_cmp_total nat_cmp-IsAntisymmetric home_of_number index s.recs w.recs d v at a.recs }
+  sets d v answer at = record { answer = refl; moved = refl; rows = still nat_list_cmp_total bytes_apart home_of_row index s.rows w.rows a.rows; recs = set_one nat_cmp_total nat_cmp-IsAntisymmetric home_of_number index s.recs w.recs d v at a.recs; locks = locks_still }
 
   cuts : (d : ℕ) (answer : Answer) → home_of_number d ≡ index → ServesShard index w (unmoved (with_recs s (remove s.recs d)) answer) (unmoved (with_recs w (remove w.recs d)) answer)
-  cuts d answer at = record { answer = refl; moved = refl; rows = still nat_list_cmp_total bytes_apart home_of_row index s.rows w.rows a.rows; recs = cut_one nat_cmp_total nat_cmp-IsAntisymmetric home_of_number index s.recs w.recs d at a.recs }
+  cuts d answer at = record { answer = refl; moved = refl; rows = still nat_list_cmp_total bytes_apart home_of_row index s.rows w.rows a.rows; recs = cut_one nat_cmp_total nat_cmp-IsAntisymmetric home_of_number index s.recs w.recs d at a.recs; locks = locks_still }
 
   pub names_alike : (d : ℕ) → home_of_number d ≡ index → names_of w d ≡ names_of s d
   names_alike d at = same_map nat_list_cmp_total bytes_apart (names_of w d) (names_of s d) (λ q.
@@ -122,6 +127,7 @@ module _ (index : ℕ) (s w : Shard) (a : AgreesShard index s w) where
     moved = refl;
     rows = set_one nat_list_cmp_total bytes_apart home_of_row index s.rows w.rows (row_key dir name) (record { node = node; stamp = at }) home a.rows;
     recs = set_one nat_cmp_total nat_cmp-IsAntisymmetric home_of_number index s.recs w.recs dir.0 (record r { attr = updated r.attr node ts }) home a.recs;
+    locks = locks_still;
   }
 
   settle_alike : (d : DirId) → home_of_number d.0 ≡ index → (r : DirRec) (owner : Option Client) → ServesShard index w (settle_dir_owner s d r owner) (settle_dir_owner w d r owner)
@@ -147,21 +153,42 @@ module _ (index : ℕ) (s w : Shard) (a : AgreesShard index s w) where
   made_home : (at : Stamp) → at.place.0 ≡ index → index < 64 → home_of_number (made_at at) ≡ index
   made_home at is low = omega arith
 
+  free_serves : (at : Stamp) (ask : Ask) → (place_of ask).0 ≡ index → at.place.0 ≡ index → index < 64 → ServesShard index w (serve_free s at ask) (serve_free w at ask)
+  free_serves at (Read dir name) is own low = looks _ _ (ap read_row (a.rows.here (row_key dir name) is))
+  free_serves at (ListAsk dir) is own low = looks _ _ (ap (list_rows w dir.0) (a.recs.here dir.0 is) ∙ list_alike dir.0 is (get s.recs dir.0))
+  free_serves at (Insert c dir name node ts) is own low =
+      subst (λ o. ServesShard index w (serve_free s at (Insert c dir name node ts)) (inserted w at c dir name node ts o (get w.rows (row_key dir name)))) (sym (a.recs.here dir.0 is))
+      (subst (λ o. ServesShard index w (serve_free s at (Insert c dir name node ts)) (inserted w at c dir name node ts (get s.recs dir.0) o)) (sym (a.rows.here (row_key dir name) is))
+      (insert_alike at c dir name node ts is (get s.recs dir.0) (get s.rows (row_key dir name))))
+  free_serves at (Put c place home) is own low = looks _ _ refl
+  free_serves at (PutDir c place dir name) is own low = sets (made_at at) (new_dir c dir name at.number) _ (made_home at own low)
+  free_serves at (Settle (Dir d)) is own low = subst (λ o. ServesShard index w (serve_free s at (Settle (Dir d))) (settled_dir w d o)) (sym (a.recs.here d.0 is)) (settled_alike d is (get s.recs d.0))
+  free_serves at (Settle (File f)) is own low = looks _ _ refl
+  free_serves at (TakeBack c (Dir d)) is own low = subst (λ o. ServesShard index w (serve_free s at (TakeBack c (Dir d))) (taken_back_dir w c d o)) (sym (a.recs.here d.0 is)) (taken_alike c d is (get s.recs d.0))
+  free_serves at (TakeBack c (File f)) is own low = looks _ _ refl
+  free_serves at (End c) is own low = looks _ _ refl
+
+  locks_alike : (d : ℕ) → home_of_number d ≡ index → locks_in w.locks d ≡ locks_in s.locks d
+  locks_alike d at = same_map nat_list_cmp_total bytes_apart (locks_in w.locks d) (locks_in s.locks d) (λ q. get-locks_in w.locks d q ∙ a.locks.here (d ∷ q) at ∙ sym (get-locks_in s.locks d q))
+
+  met_alike : (ask : Ask) → (place_of ask).0 ≡ index → lock_met w.locks w.recs ask ≡ lock_met s.locks s.recs ask
+  met_alike (Read dir name) is = ap source_job (a.locks.here (row_key dir name) is)
+  met_alike (ListAsk dir) is = ap (λ o. met_in o (first_source (entries (locks_in w.locks dir.0)))) (a.recs.here dir.0 is) ∙ ap (λ m. met_in (get s.recs dir.0) (first_source (entries m))) (locks_alike dir.0 is)
+  met_alike (Insert c dir name node ts) is = ap (λ o. met_in o (job_of (get w.locks (row_key dir name)))) (a.recs.here dir.0 is) ∙ ap (λ o. met_in (get s.recs dir.0) (job_of o)) (a.locks.here (row_key dir name) is)
+  met_alike (Put c place home) is = refl
+  met_alike (PutDir c place dir name) is = refl
+  met_alike (Settle node) is = refl
+  met_alike (TakeBack c node) is = refl
+  met_alike (End c) is = refl
+
   -- the shard serves an ask of its own as all shards do
   pub shard_serves : (at : Stamp) (ask : Ask) → (place_of ask).0 ≡ index → at.place.0 ≡ index → index < 64 → ServesShard index w (serve_shard s at ask) (serve_shard w at ask)
-  shard_serves at (Read dir name) is own low = looks _ _ (ap read_row (a.rows.here (row_key dir name) is))
-  shard_serves at (ListAsk dir) is own low = looks _ _ (ap (list_rows w dir.0) (a.recs.here dir.0 is) ∙ list_alike dir.0 is (get s.recs dir.0))
-  shard_serves at (Insert c dir name node ts) is own low =
-      subst (λ o. ServesShard index w (serve_shard s at (Insert c dir name node ts)) (inserted w at c dir name node ts o (get w.rows (row_key dir name)))) (sym (a.recs.here dir.0 is))
-      (subst (λ o. ServesShard index w (serve_shard s at (Insert c dir name node ts)) (inserted w at c dir name node ts (get s.recs dir.0) o)) (sym (a.rows.here (row_key dir name) is))
-      (insert_alike at c dir name node ts is (get s.recs dir.0) (get s.rows (row_key dir name))))
-  shard_serves at (Put c place home) is own low = looks _ _ refl
-  shard_serves at (PutDir c place dir name) is own low = sets (made_at at) (new_dir c dir name at.number) _ (made_home at own low)
-  shard_serves at (Settle (Dir d)) is own low = subst (λ o. ServesShard index w (serve_shard s at (Settle (Dir d))) (settled_dir w d o)) (sym (a.recs.here d.0 is)) (settled_alike d is (get s.recs d.0))
-  shard_serves at (Settle (File f)) is own low = looks _ _ refl
-  shard_serves at (TakeBack c (Dir d)) is own low = subst (λ o. ServesShard index w (serve_shard s at (TakeBack c (Dir d))) (taken_back_dir w c d o)) (sym (a.recs.here d.0 is)) (taken_alike c d is (get s.recs d.0))
-  shard_serves at (TakeBack c (File f)) is own low = looks _ _ refl
-  shard_serves at (End c) is own low = looks _ _ refl
+  shard_serves at ask is own low =
+      subst (λ o. ServesShard index w (serve_shard s at ask) (unless_locked o w (serve_free w at ask))) (sym (met_alike ask is)) (by_lock (lock_met s.locks s.recs ask))
+    where
+      by_lock : (o : Option JobNo) → ServesShard index w (unless_locked o s (serve_free s at ask)) (unless_locked o w (serve_free w at ask))
+      by_lock None = free_serves at ask is own low
+      by_lock (Some job) = looks _ _ refl
 
 -- ---- a store
 pub record ServesStore (index : ℕ) (w : Store) (own all : Served Store) : Type 0 where

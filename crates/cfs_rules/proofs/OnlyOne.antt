@@ -1,8 +1,9 @@
 -- What is known of the shards and the stores has one proof at most, so it may be kept with them.
-use Rattle.std.proofs.Common.{◌≡◌, ℕ, suc, List, [], ◌∷◌}
+use Rattle.std.proofs.Common.{ℕ, suc, List, [], ◌∷◌}
 use Rattle.std.proofs.Props.{props}
 use Rattle.cfs_rules.specs.Places.{Shard, Store}
 use Rattle.cfs_rules.specs.Homes.{AreOwnShards, AreOwnStores}
+use Rattle.cfs_rules.specs.Facts.{Unlocked}
 use Rattle.cfs_rules.specs.Several.{View, AreNumbered}
 
 pub AreNumbered-prop : {C : Type 0} (first : ℕ) (vs : List (View C)) → IsProp (AreNumbered first vs)
@@ -16,3 +17,6 @@ AreOwnShards-prop first (s ∷ ss) = hlevel (props, AreOwnShards-prop (suc first
 pub AreOwnStores-prop : (first : ℕ) (ss : List Store) → IsProp (AreOwnStores first ss)
 AreOwnStores-prop first [] = hlevel props
 AreOwnStores-prop first (s ∷ ss) = hlevel (props, AreOwnStores-prop (suc first) ss)
+
+pub Unlocked-prop : (s : Shard) → IsProp (Unlocked s)
+Unlocked-prop s = hlevel props

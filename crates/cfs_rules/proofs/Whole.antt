@@ -1,6 +1,5 @@
 -- All shards together after one of them has served an ask, and all stores.
-use Rattle.std.proofs.Common.{◌≡◌, ◌≢◌, ℕ, suc, zero, ◌+◌, ◌<◌, List, [], ◌∷◌, map, length, set, get_or, refl, sym, ◌∙◌, ap, subst, arith}
-use Rattle.std.specs.Ordering.{nat_cmp}
+use Rattle.std.proofs.Common.{◌≡◌, ℕ, suc, zero, ◌+◌, ◌<◌, List, [], ◌∷◌, map, length, set, get_or, refl, sym, ◌∙◌, ap, arith}
 use Rattle.std.specs.Cmp.{nat_cmp_total}
 use Rattle.std.specs.Cmp.Lexicographic.{nat_list_cmp_total}
 use Rattle.std.specs.declared.cmp.Ordering.{Ordering}
@@ -34,15 +33,19 @@ pub own_recs : (first : ℕ) (ss : List Shard) → AreOwnShards first ss → Lie
 own_recs first [] h = tt
 own_recs first (s ∷ ss) h = (h.0.recs, own_recs (suc first) ss h.1)
 
+pub own_locks : (first : ℕ) (ss : List Shard) → AreOwnShards first ss → LieFrom home_of_row first (map (λ (s : Shard). s.locks) ss)
+own_locks first [] h = tt
+own_locks first (s ∷ ss) h = (h.0.locks, own_locks (suc first) ss h.1)
+
 own_at : (first : ℕ) (ss : List Shard) (i : ℕ) (d : Shard) → AreOwnShards first ss → i < length ss → IsOwnShard (i + first) (get_or ss i d)
 own_at first [] i d h lt = absurd (omega arith)
-own_at first (s ∷ ss) zero d h lt = record { rows = λ k x e. let at = h.0.rows k x e in omega arith; recs = λ k x e. let at = h.0.recs k x e in omega arith }
-own_at first (s ∷ ss) (suc i) d h lt = let o = own_at (suc first) ss i d h.1 (omega arith) in record { rows = λ k x e. let at = o.rows k x e in omega arith; recs = λ k x e. let at = o.recs k x e in omega arith }
+own_at first (s ∷ ss) zero d h lt = record { rows = λ k x e. let at = h.0.rows k x e in omega arith; recs = λ k x e. let at = h.0.recs k x e in omega arith; locks = λ k x e. let at = h.0.locks k x e in omega arith }
+own_at first (s ∷ ss) (suc i) d h lt = let o = own_at (suc first) ss i d h.1 (omega arith) in record { rows = λ k x e. let at = o.rows k x e in omega arith; recs = λ k x e. let at = o.recs k x e in omega arith; locks = λ k x e. let at = o.locks k x e in omega arith }
 
 pub AreOwnShards-set : (first : ℕ) (ss : List Shard) (i : ℕ) (s : Shard) → AreOwnShards first ss → IsOwnShard (i + first) s → AreOwnShards first (set ss i s)
 AreOwnShards-set first [] i s h own = tt
-AreOwnShards-set first (x ∷ ss) zero s h own = (record { rows = λ k y e. let at = own.rows k y e in omega arith; recs = λ k y e. let at = own.recs k y e in omega arith }, h.1)
-AreOwnShards-set first (x ∷ ss) (suc i) s h own = (h.0, AreOwnShards-set (suc first) ss i s h.1 (record { rows = λ k y e. let at = own.rows k y e in omega arith; recs = λ k y e. let at = own.recs k y e in omega arith }))
+AreOwnShards-set first (x ∷ ss) zero s h own = (record { rows = λ k y e. let at = own.rows k y e in omega arith; recs = λ k y e. let at = own.recs k y e in omega arith; locks = λ k y e. let at = own.locks k y e in omega arith }, h.1)
+AreOwnShards-set first (x ∷ ss) (suc i) s h own = (h.0, AreOwnShards-set (suc first) ss i s h.1 (record { rows = λ k y e. let at = own.rows k y e in omega arith; recs = λ k y e. let at = own.recs k y e in omega arith; locks = λ k y e. let at = own.locks k y e in omega arith }))
 
 -- a shard has at its own keys what all have
 pub shard_agrees : (ss : List Shard) (i : ℕ) (s : Shard) → AreOwnShards 0 ss → i < length ss → s ≡ get_or ss i s → AgreesShard i s (all_shards ss)
@@ -59,10 +62,15 @@ shard_agrees ss i s h lt is =
         here = λ k at. get-gathered nat_cmp_total nat_cmp-IsAntisymmetric home_of_number (map (λ (s : Shard). s.recs) ss) k (own_recs 0 ss h) ∙ ap (λ n. get_in (map (λ (s : Shard). s.recs) ss) n k) at
             ∙ get_in-map (λ (s : Shard). s.recs) ss i s k lt ∙ ap (λ (t : Shard). get t.recs k) (sym is);
       };
+      locks = record {
+        own = λ k x e. let at = own.locks k x (ap (λ (t : Shard). get t.locks k) (sym is) ∙ e) in omega arith;
+        here = λ k at. get-gathered nat_list_cmp_total bytes_apart home_of_row (map (λ (s : Shard). s.locks) ss) k (own_locks 0 ss h) ∙ ap (λ n. get_in (map (λ (s : Shard). s.locks) ss) n k) at
+            ∙ get_in-map (λ (s : Shard). s.locks) ss i s k lt ∙ ap (λ (t : Shard). get t.locks k) (sym is);
+      };
     }
 
 pub shards_after : (ss : List Shard) (i : ℕ) (own all : Served Shard) → AreOwnShards 0 ss → i < length ss → ServesShard i (all_shards ss) own all → all_shards (set ss i own.contents) ≡ all.contents
-shards_after ss i own all h lt s = λ j. record { rows = rows j; recs = recs j }
+shards_after ss i own all h lt s = λ j. record { rows = rows j; recs = recs j; locks = locks j }
   where
     rows : (all_shards (set ss i own.contents)).rows ≡ all.contents.rows
     rows = ap gathered (map-set (λ (s : Shard). s.rows) ss i own.contents)
@@ -71,6 +79,10 @@ shards_after ss i own all h lt s = λ j. record { rows = rows j; recs = recs j }
     recs : (all_shards (set ss i own.contents)).recs ≡ all.contents.recs
     recs = ap gathered (map-set (λ (s : Shard). s.recs) ss i own.contents)
         ∙ gathered-set nat_cmp_total nat_cmp-IsAntisymmetric home_of_number (map (λ (s : Shard). s.recs) ss) i own.contents.recs all.contents.recs (let same = length-map (λ (s : Shard). s.recs) ss in omega arith) (own_recs 0 ss h) s.recs.own s.recs.here s.recs.there
+
+    locks : (all_shards (set ss i own.contents)).locks ≡ all.contents.locks
+    locks = ap gathered (map-set (λ (s : Shard). s.locks) ss i own.contents)
+        ∙ gathered-set nat_list_cmp_total bytes_apart home_of_row (map (λ (s : Shard). s.locks) ss) i own.contents.locks all.contents.locks (let same = length-map (λ (s : Shard). s.locks) ss in omega arith) (own_locks 0 ss h) s.locks.own s.locks.here s.locks.there
 
 -- ---- stores
 pub own_files : (first : ℕ) (ss : List Store) → AreOwnStores first ss → LieFrom home_of_number first ss

@@ -9,8 +9,6 @@ use Rattle.cfs_ids.specs.Namespace.{Namespace, is_dir, IsDefined, after, empty_r
 use Rattle.cfs_steps.specs.declared.contents.Row.{Row}
 use Rattle.cfs_steps.specs.declared.contents.DirRec.{DirRec}
 use Rattle.cfs_steps.specs.declared.contents.FileRec.{FileRec}
-use Rattle.cfs_steps.specs.declared.ask.Ask.{Ask}
-use Rattle.cfs_steps.specs.declared.ask.Ask.TheVariants.{PutDir, TakeBack}
 use Rattle.cfs_steps.specs.declared.entry.Entry.{Entry}
 use Rattle.cfs_steps.specs.declared.moves.Moved.{Moved}
 use Rattle.cfs_steps.specs.declared.moves.Move.{Move as MoveFacts}
@@ -31,11 +29,10 @@ pub record Counted (shard : Shard) (d : ℕ) (r : DirRec) : Type 0 where
 abbrev pub CountsHold : Shard → Type 0
 CountsHold shard = (d : ℕ) (r : DirRec) → get shard.recs d ≡ Some r → Counted shard d r
 
--- the asks that make no record of a directory, and remove none
-abbrev pub keeps_recs : Ask → Bool
-keeps_recs (PutDir client at dir name) = false
-keeps_recs (TakeBack client node) = false
-keeps_recs ask = true
+-- no lock is set
+pub record Unlocked (shard : Shard) : Type 0 where
+  pub names : (k : List ℕ) → get shard.locks k ≡ None
+  pub recs : (d : ℕ) (r : DirRec) → get shard.recs d ≡ Some r → r.lock ≡ None
 
 abbrev pub HasRecord : Shard → Store → Node → Type 0
 HasRecord shard store (File f) = (r : FileRec) × (get store f.0 ≡ Some r)

@@ -1,7 +1,9 @@
 -- The maps of several places as one, and which of its keys lie where.
-use Rattle.std.specs.Prelude.{◌≡◌, ℕ, suc, zero, ◌%◌, List, [], ◌∷◌, map, flat_map, Option, Some, None}
+use Rattle.std.specs.Prelude.{◌≡◌, ℕ, suc, ◌%◌, List, [], ◌∷◌, map, flat_map, Some, slice_get}
 use Rattle.std.specs.declared.cmp.Ordering.{Ordering}
 use Rattle.std.specs.FinMap.{FinMap, get, entries, from_entries}
+use Rattle.cfs_steps.specs.declared.contents.Row.{Row}
+use Rattle.cfs_steps.specs.declared.contents.DirRec.{DirRec}
 use Rattle.cfs_rules.specs.Places.{Shard, Store}
 
 -- the shard of a row's key, and of a directory, and the store of a file, by their indices
@@ -28,15 +30,20 @@ module _ {K X : Type 0} {R : K → K → Ordering} where
 
 -- the shards as one, and the stores
 abbrev pub all_shards : List Shard → Shard
-all_shards shards = record { rows = gathered (map (λ (s : Shard). s.rows) shards); recs = gathered (map (λ (s : Shard). s.recs) shards) }
+all_shards shards = record {
+  rows = gathered (map (λ (s : Shard). s.rows) shards);
+  recs = gathered (map (λ (s : Shard). s.recs) shards);
+  locks = gathered (map (λ (s : Shard). s.locks) shards);
+}
 
 abbrev pub all_stores : List Store → Store
 all_stores stores = gathered stores
 
--- a shard has the rows and the records of its own directories, and no others
+-- a shard has the rows, the records and the locks of its own directories, and no others
 pub record IsOwnShard (index : ℕ) (s : Shard) : Type 0 where
   pub rows : LieAt home_of_row index s.rows
   pub recs : LieAt home_of_number index s.recs
+  pub locks : LieAt home_of_row index s.locks
 
 -- a store has the records of its own files, and no others
 abbrev pub IsOwnStore : ℕ → Store → Type 0
@@ -49,3 +56,8 @@ AreOwnShards index (s ∷ shards) = IsOwnShard index s × AreOwnShards (suc inde
 abbrev pub AreOwnStores : ℕ → List Store → Type 0
 AreOwnStores index [] = Unit {0}
 AreOwnStores index (s ∷ stores) = IsOwnStore index s × AreOwnStores (suc index) stores
+
+-- the rows and the record of a directory lie in one shard
+abbrev pub LieTogether : List Shard → Type 0
+LieTogether shards = (i j : ℕ) (s t : Shard) (d : ℕ) (name : List ℕ) (row : Row) (r : DirRec)
+    → slice_get shards i ≡ Some s → slice_get shards j ≡ Some t → get s.rows (d ∷ name) ≡ Some row → get t.recs d ≡ Some r → i ≡ j

@@ -1,5 +1,5 @@
--- What a step is known to tell of the tree: the tree is what the moves so far make, each look-up decides the reply, and
--- each client's call is on a directory of the tree.
+-- What a step is known to tell of the tree: the tree is what the moves so far make, each look-up decides the reply, each
+-- client's call is on a directory of the tree, and no lock stands in its way.
 use Rattle.std.specs.Prelude.{◌≡◌, ℕ, List, true, Option, Some, None}
 use Rattle.std.specs.FinMap.{get, entries}
 use Rattle.cfs_ids.specs.declared.ids.DirId.{DirId}
@@ -16,7 +16,7 @@ use Rattle.cfs_rules.specs.Places.{Shard, names_of}
 use Rattle.cfs_steps.specs.Phases.{Phase, Asking, Inserting, maker}
 use Rattle.cfs_rules.specs.Worlds.{World, dir_of}
 use Rattle.cfs_rules.specs.Trees.{is_shown, tree}
-use Rattle.cfs_rules.specs.Facts.{space, MovesAllowed}
+use Rattle.cfs_rules.specs.Facts.{space, MovesAllowed, Unlocked}
 
 abbrev pub reply_of_row : Option Row → Reply
 reply_of_row None = Refused Enoent
@@ -42,6 +42,7 @@ pub record Known (w : World) : Type 0 where
   pub same : tree w.shard w.store ≡ space w.run
   -- and each move was allowed
   pub allowed : MovesAllowed w.run
+  pub free : Unlocked w.shard
   pub sees : (c : ℕ) → Sees w.shard (w.clients c).current
   pub lookup : (dir : DirId) (name : List ℕ) → is_shown w.shard dir.0 ≡ true → answer (tree w.shard w.store) (Lookup dir name) ≡ reply_of_row (get w.shard.rows (row_key dir name))
   pub listed : (dir : DirId) → is_shown w.shard dir.0 ≡ true → answer (tree w.shard w.store) (ListCall dir) ≡ reply_of_list w.shard dir.0 (get w.shard.recs dir.0)

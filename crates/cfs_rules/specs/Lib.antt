@@ -3,6 +3,7 @@ pub mod Histories
 pub mod Homes
 pub mod Known
 pub mod Legal
+pub mod Locks
 pub mod Members
 pub mod Places
 pub mod Several

@@ -8,26 +8,30 @@ use Rattle.cfs_ids.specs.declared.ids.Stamp.{Stamp}
 use Rattle.cfs_ids.specs.declared.ids.Actor.{Actor}
 use Rattle.cfs_ids.specs.declared.ids.Node.{Node}
 use Rattle.cfs_ids.specs.declared.ids.Node.TheVariants.{Dir, File}
+use Rattle.cfs_ids.specs.declared.ids.JobNo.{JobNo}
 use Rattle.cfs_ids.specs.declared.attributes.DirAttr.{DirAttr}
 use Rattle.cfs_ids.specs.Maps.{Names, Numbers, row_key, within}
 use Rattle.cfs_ids.specs.Namespace.{is_dir}
 use Rattle.cfs_steps.specs.declared.contents.Row.{Row}
 use Rattle.cfs_steps.specs.declared.contents.DirRec.{DirRec}
 use Rattle.cfs_steps.specs.declared.contents.FileRec.{FileRec}
+use Rattle.cfs_steps.specs.declared.contents.RowLock.{RowLock}
 use Rattle.cfs_steps.specs.declared.ask.Ask.{Ask}
 use Rattle.cfs_steps.specs.declared.ask.Ask.TheVariants.{Read, List as ListAsk, Insert, Put, PutDir, Settle, TakeBack, End}
 use Rattle.cfs_steps.specs.declared.answer.Answer.{Answer}
-use Rattle.cfs_steps.specs.declared.answer.Answer.TheVariants.{Absent, Found, NoDir, Rows, New, Exists, Done, None as NoneAnswer}
+use Rattle.cfs_steps.specs.declared.answer.Answer.TheVariants.{Absent, Found, NoDir, Locked, Rows, New, Exists, Done, None as NoneAnswer}
 use Rattle.cfs_steps.specs.declared.entry.Entry.{Entry}
 use Rattle.cfs_steps.specs.declared.moves.Moved.{Moved}
 use Rattle.cfs_steps.specs.declared.moves.Moved.TheVariants.{Move}
 use Rattle.cfs_steps.specs.Phases.{maker}
+use Rattle.cfs_rules.specs.Locks.{lock_met}
 
--- a shard has rows and records of directories. All shards together are one such pair of maps, of which each has the
--- part whose directories' numbers are its own modulo 64
+-- a shard has rows, records of directories, and the locks of jobs on names. All shards together are three such maps, of
+-- which each has the part whose directories' numbers are its own modulo 64
 pub record Shard : Type 0 where
   pub rows : Names Row
   pub recs : Numbers DirRec
+  pub locks : Names RowLock
 
 -- a store has records of files, and all stores together are one such map
 abbrev pub Store : Type 0
@@ -40,13 +44,16 @@ Roster = List Client
 abbrev pub empty_attr : DirAttr
 empty_attr = record { children = 0; subdirs = 0; time = 0 }
 
+abbrev pub root_rec : DirRec
+root_rec = record { attr = empty_attr; back = None; owner = None; lock = None }
+
 -- shard 0 opens with the root's record
 abbrev pub opening_shard : Shard
-opening_shard = record { rows = empty; recs = insert empty 0 (record { attr = empty_attr; back = None; owner = None }) }
+opening_shard = record { rows = empty; recs = insert empty 0 root_rec; locks = empty }
 
 -- the others open without a record
 abbrev pub empty_shard : Shard
-empty_shard = record { rows = empty; recs = empty }
+empty_shard = record { rows = empty; recs = empty; locks = empty }
 
 abbrev pub opening_part : ℕ → Shard
 opening_part index = if index == 0 then opening_shard else empty_shard
@@ -94,7 +101,7 @@ abbrev pub updated : DirAttr → Node → ℕ → DirAttr
 updated attr node ts = record { children = attr.children + 1; subdirs = attr.subdirs + (if is_dir node then 1 else 0); time = max attr.time ts }
 
 abbrev pub with_row : Shard → Stamp → DirId → List ℕ → Node → ℕ → DirRec → Shard
-with_row s at dir name node ts r = record {
+with_row s at dir name node ts r = record s {
   rows = insert s.rows (row_key dir name) (record { node = node; stamp = at });
   recs = insert s.recs dir.0 (record r { attr = updated r.attr node ts });
 }
@@ -109,11 +116,11 @@ inserted s at client dir name node ts (Some r) None = record {
 }
 
 abbrev pub with_recs : Shard → Numbers DirRec → Shard
-with_recs s recs = record { rows = s.rows; recs = recs }
+with_recs s recs = record s { recs = recs }
 
 -- a directory without rows, which its client means to name here
 abbrev pub new_dir : Client → DirId → List ℕ → ℕ → DirRec
-new_dir client dir name number = record { attr = record { children = 0; subdirs = 0; time = number }; back = Some (dir, name); owner = Some client }
+new_dir client dir name number = record { attr = record { children = 0; subdirs = 0; time = number }; back = Some (dir, name); owner = Some client; lock = None }
 
 abbrev pub put_dir : Shard → Stamp → Client → DirId → List ℕ → Served Shard
 put_dir s at client dir name = unmoved (with_recs s (insert s.recs (made_at at) (new_dir client dir name at.number))) (New (Dir (record { 0 = made_at at })))
@@ -134,15 +141,23 @@ abbrev pub taken_back_dir : Shard → Client → DirId → Option DirRec → Ser
 taken_back_dir s client dir None = unmoved s NoneAnswer
 taken_back_dir s client dir (Some r) = take_owned_dir s client dir r.owner
 
--- the table of the shard; `at` is the stamp of the step
+-- the table of the shard where no lock is met; `at` is the stamp of the step
+abbrev pub serve_free : Shard → Stamp → Ask → Served Shard
+serve_free s at (Read dir name) = unmoved s (read_row (get s.rows (row_key dir name)))
+serve_free s at (ListAsk dir) = unmoved s (list_rows s dir.0 (get s.recs dir.0))
+serve_free s at (Insert client dir name node ts) = inserted s at client dir name node ts (get s.recs dir.0) (get s.rows (row_key dir name))
+serve_free s at (PutDir client place dir name) = put_dir s at client dir name
+serve_free s at (Settle (Dir dir)) = settled_dir s dir (get s.recs dir.0)
+serve_free s at (TakeBack client (Dir dir)) = taken_back_dir s client dir (get s.recs dir.0)
+serve_free s at _ = unmoved s NoneAnswer
+
+abbrev pub unless_locked : Option JobNo → Shard → Served Shard → Served Shard
+unless_locked None s served = served
+unless_locked (Some job) s served = unmoved s (Locked job)
+
+-- the table of the shard
 abbrev pub serve_shard : Shard → Stamp → Ask → Served Shard
-serve_shard s at (Read dir name) = unmoved s (read_row (get s.rows (row_key dir name)))
-serve_shard s at (ListAsk dir) = unmoved s (list_rows s dir.0 (get s.recs dir.0))
-serve_shard s at (Insert client dir name node ts) = inserted s at client dir name node ts (get s.recs dir.0) (get s.rows (row_key dir name))
-serve_shard s at (PutDir client place dir name) = put_dir s at client dir name
-serve_shard s at (Settle (Dir dir)) = settled_dir s dir (get s.recs dir.0)
-serve_shard s at (TakeBack client (Dir dir)) = taken_back_dir s client dir (get s.recs dir.0)
-serve_shard s at _ = unmoved s NoneAnswer
+serve_shard s at ask = unless_locked (lock_met s.locks s.recs ask) s (serve_free s at ask)
 
 -- ---- the store
 abbrev pub settle_owner : Store → FileId → FileRec → Option Client → Served Store
@@ -178,3 +193,7 @@ serve_store s at _ = unmoved s NoneAnswer
 abbrev pub serve_roster : Roster → Ask → Served Roster
 serve_roster r (End client) = unmoved (r ++ client ∷ []) (Done None)
 serve_roster r _ = unmoved r NoneAnswer
+
+-- ---- the desk, which has nothing to change yet
+abbrev pub serve_desk : Ask → Served (Unit {0})
+serve_desk ask = unmoved tt NoneAnswer

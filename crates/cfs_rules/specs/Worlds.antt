@@ -52,7 +52,7 @@ pub record Setup : Type 0 where
   pub counts : Counts
   pub calls : ℕ → List Call
 
--- ---- a client's puts go round the shards and the stores, in one count
+-- ---- a client's n-th put, counted over files and directories together, goes to the place (client + n) modulo their number
 abbrev pub places_for : Counts → Call → ℕ
 places_for counts (Mkdir dir name) = counts.shards
 places_for counts call = counts.stores
@@ -201,7 +201,7 @@ AreInRoot (call ∷ calls) = ((dir_of call).0 ≡ 0) × AreInRoot calls
 abbrev pub IsCount : ℕ → Type 0
 IsCount n = (1 ≤ n) × (n ≤ 64)
 
--- 1 to 64 shards, and as many stores
+-- 1 to 64 shards, and 1 to 64 stores
 pub record AreCounts (counts : Counts) : Type 0 where
   pub shards : IsCount counts.shards
   pub stores : IsCount counts.stores

@@ -1,8 +1,10 @@
 //! The top calls.
-ghost use Rattle.std.specs.Prelude.{◌≡◌, ◌≢◌, ◌↔◌, ℕ, List, map, string_bytes, Some, None, IsSome};
+ghost use Rattle.std.specs.Prelude.{◌≡◌, ◌≢◌, ◌↔◌, ℕ, List, map, string_bytes, Ok, Some, None, IsSome};
 ghost use Rattle.cfs_ids.specs.declared.ids.PlaceNo.{PlaceNo};
 ghost use Rattle.cfs_io.specs.Causes.{Rose};
 ghost use Rattle.cfs_script.specs.declared.script.Fault.{Fault};
+ghost use Rattle.cfs_script.specs.declared.script.Script.{Script};
+ghost use Rattle.cfs_script.specs.Forms.{IsScript};
 ghost use Rattle.cfs_script.specs.Outcomes.{HasRefused};
 ghost use Rattle.cfs_script.specs.Scripts.{script_of};
 ghost use Rattle.cfs_run.specs.Outcomes.{Replayed, CutOff, ComesBeforeWriting, Answers, usage_of};
@@ -35,6 +37,7 @@ pub fn replay<S: Source, K: Sink>(alloc: Global, source: &mut S, sink: &mut K) -
 
     // Where the source tells what it has left, no other status comes but for faults and want of memory.
     ensures told { (left : List ℕ) → S.left source.old ≡ Some left → Answers result (script_of left) }
+    ensures form { (left : List ℕ) (script : Script) → S.left source.old ≡ Some left → IsScript left script → Answers result (Ok script) }
     ensures no_usage { (word : ℕ) → result ≢ Status.Usage word }
     ensures no_verdict { (line : ℕ) → result ≢ Status.No line }
 {

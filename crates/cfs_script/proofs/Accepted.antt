@@ -23,7 +23,7 @@ use Rattle.cfs_script.proofs.Opening.{IsOpened, places_line-opened}
 use Rattle.cfs_script.proofs.Words.{client_of-range, client_of-text, command_of-text, bytes_eq-same}
 
 -- the turns of the lines, one after another
-abbrev flat : List (List Client) → List Client
+abbrev pub flat : List (List Client) → List Client
 flat turns = flat_map (λ clients. clients) turns
 
 -- what was read so far, behind the first line, is these commands and turns
@@ -52,7 +52,7 @@ lists_in-more (p ∷ orders) o = let rest = lists_in-more orders o in omega (ari
 All-one : {X : Type 0} (P : X → Type 0) (x : X) → P x → All P (x ∷ [])
 All-one P x h = λ k d few. (let zero_is : k ≡ 0 = omega arith in rw zero_is h)
 
-All-none : {X : Type 0} (P : X → Type 0) → All P []
+pub All-none : {X : Type 0} (P : X → Type 0) → All P []
 All-none P = λ k d few. absurd (omega arith)
 
 map-append : {X Y : Type 0} (f : X → Y) (xs ys : List X) → map f (xs ++ ys) ≡ map f xs ++ map f ys

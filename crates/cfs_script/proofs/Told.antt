@@ -7,15 +7,18 @@ use Rattle.cfs_io.proofs.Told.{ReadsWithin-told}
 use Rattle.cfs_script.specs.declared.script.Script.{Script}
 use Rattle.cfs_script.specs.declared.script.ScriptRefusal.{ScriptRefusal}
 use Rattle.cfs_script.specs.declared.script.ScriptRefusal.TheVariants.{ReadFault, Bad, NoMemory}
+use Rattle.cfs_script.specs.Forms.{IsScript}
 use Rattle.cfs_script.specs.Scripts.{script_of, most_bytes}
 use Rattle.cfs_script.specs.Outcomes.{IsInForm, Reads, Gives, Answers}
 use Rattle.cfs_script.proofs.Limits.{script_of-take}
 use Rattle.cfs_script.proofs.Accepted.{script_of-accepted}
+use Rattle.cfs_script.proofs.Broken.{script_of-breaks}
+use Rattle.cfs_script.proofs.FormRead.{script_of-form}
 use Rattle.cfs_script.proofs.InForm.{script_of-in_form}
 
 pub Reads-from_bytes : (old new : Option (List ℕ)) (bytes : List ℕ) (result : Result Script ScriptRefusal) → ReadsWithin most_bytes old new bytes → Gives result (script_of bytes) → Reads old new result
 Reads-from_bytes old new bytes (Ok script) read said = record { bytes = bytes; read = read; said = said; form = script_of-accepted bytes script said }
-Reads-from_bytes old new bytes (Err (Bad line fault)) read said = record { bytes = bytes; read = read; said = said }
+Reads-from_bytes old new bytes (Err (Bad line fault)) read said = record { bytes = bytes; read = read; said = said; breaks = script_of-breaks bytes line said }
 Reads-from_bytes old new bytes (Err ReadFault) read said = tt
 Reads-from_bytes old new bytes (Err NoMemory) read said = tt
 
@@ -34,6 +37,11 @@ Answers-from_bytes old new bytes (Err (Bad line fault)) read said left e = sym (
 Answers-from_bytes old new bytes (Err ReadFault) read said left e = tt
 Answers-from_bytes old new bytes (Err NoMemory) read said left e = tt
 
+-- a text of the form gives its script
+pub Answers-from_form : (old new : Option (List ℕ)) (bytes : List ℕ) (result : Result Script ScriptRefusal) → ReadsWithin most_bytes old new bytes → Gives result (script_of bytes) →
+    (left : List ℕ) (script : Script) → old ≡ Some left → IsScript left script → Answers result (Ok script)
+Answers-from_form old new bytes result read said left script e form = rw (script_of-form left script form) at (Answers-from_bytes old new bytes result read said left e)
+
 -- bytes at hand do not fail
 pub no_fault-from_bytes : (X : Type 0) (bytes : List ℕ) (result : Result Script ScriptRefusal) → Gives result (script_of bytes) → IfErr result (λ refusal. refusal ≡ ReadFault → X)
 no_fault-from_bytes X bytes (Ok script) said = tt
@@ -41,4 +49,4 @@ no_fault-from_bytes X bytes (Err (Bad line fault)) said = λ same. cc
 no_fault-from_bytes X bytes (Err ReadFault) said = absurd said
 no_fault-from_bytes X bytes (Err NoMemory) said = λ same. cc
 
-pub ruleset telling = (Reads-from_bytes, in_form-from_bytes, Answers-from_bytes, no_fault-from_bytes)
+pub ruleset telling = (Reads-from_bytes, in_form-from_bytes, Answers-from_bytes, Answers-from_form, no_fault-from_bytes)

@@ -1,3 +1,4 @@
+pub mod Breaks
 pub mod Calls
 pub mod Fields
 pub mod Forms

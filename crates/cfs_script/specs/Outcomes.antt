@@ -10,6 +10,7 @@ use Rattle.cfs_script.specs.declared.command.Command.{Command}
 use Rattle.cfs_script.specs.declared.script.Script.{Script}
 use Rattle.cfs_script.specs.declared.script.ScriptRefusal.{ScriptRefusal}
 use Rattle.cfs_script.specs.declared.script.ScriptRefusal.TheVariants.{ReadFault, Bad, NoMemory}
+use Rattle.cfs_script.specs.Breaks.{Breaks}
 use Rattle.cfs_script.specs.Forms.{IsCount, IsScript}
 use Rattle.cfs_script.specs.Lists.{rises_from, is_in}
 use Rattle.cfs_script.specs.Scripts.{script_of, most_bytes}
@@ -40,6 +41,7 @@ pub record HasRefused (old new : Option (List ℕ)) (line : ℕ) : Type 0 where
   pub bytes : List ℕ
   pub read : ReadsWithin most_bytes old new bytes
   pub said : script_of bytes ≡ Err line
+  pub breaks : Breaks bytes line
 
 -- what was read of the source, whatever it told
 abbrev pub Reads : Option (List ℕ) → Option (List ℕ) → Result Script ScriptRefusal → Type 0

@@ -4,6 +4,7 @@
 mod command;
 mod cut;
 mod fields;
+mod laws;
 mod lines;
 mod lists;
 mod read;
@@ -14,6 +15,7 @@ mod tests;
 mod turns;
 
 pub use command::{Command, CommandList};
+pub use laws::{first_break_is_told, form_is_read};
 pub use lists::CommandLists;
 pub use read::read_script;
 pub use script::{Fault, Script, ScriptRefusal};

@@ -1,6 +1,8 @@
 //! Reading a script from a source.
-ghost use Rattle.std.specs.Prelude.{◌≡◌, ◌≤◌, ℕ, List, Some, IfOk, IfErr};
+ghost use Rattle.std.specs.Prelude.{◌≡◌, ◌≤◌, ℕ, List, Some, Ok, IfOk, IfErr};
 ghost use Rattle.cfs_io.specs.Causes.{Rose};
+ghost use Rattle.cfs_script.specs.declared.script.Script.{Script};
+ghost use Rattle.cfs_script.specs.Forms.{IsScript};
 ghost use Rattle.cfs_script.specs.Scripts.{script_of};
 ghost use Rattle.cfs_script.specs.Outcomes.{Gives, Answers, Reads, IsInForm};
 
@@ -27,6 +29,7 @@ pub fn read_script<S: Source>(alloc: Global, source: &mut S) -> Result<Script, S
     ensures read { Reads (S.left source.old) (S.left source.new) result }
     ensures in_form { IfOk result IsInForm }
     ensures told { (left : List ℕ) → S.left source.old ≡ Some left → Answers result (script_of left) }
+    ensures form { (left : List ℕ) (script : Script) → S.left source.old ≡ Some left → IsScript left script → Answers result (Ok script) }
     ensures read_fault { IfErr result (λ refusal. refusal ≡ ScriptRefusal.ReadFault → Rose (S.faults source.old) (S.faults source.new)) }
     ensures later { S.faults source.old ≤ S.faults source.new }
 {

@@ -1,1 +1,4 @@
+pub mod Known
+pub mod Locking
+pub mod Own
 pub mod Within

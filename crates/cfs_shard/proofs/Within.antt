@@ -7,6 +7,7 @@ use Rattle.std.specs.FinMap.{get, insert, remove, empty, len, contains_key, gets
 use Rattle.std.specs.Cmp.{nat_cmp_total}
 use Rattle.cfs_ids.specs.declared.ids.DirId.{DirId}
 use Rattle.cfs_ids.specs.declared.ids.Client.{Client}
+use Rattle.cfs_ids.specs.declared.ids.JobNo.{JobNo}
 use Rattle.cfs_ids.specs.declared.ids.Stamp.{Stamp}
 use Rattle.cfs_ids.specs.declared.ids.Node.{Node}
 use Rattle.cfs_ids.specs.declared.ids.Node.TheVariants.{Dir, File}
@@ -17,7 +18,8 @@ use Rattle.cfs_steps.specs.declared.ask.Ask.TheVariants.{Read, List as ListAsk, 
 use Rattle.cfs_steps.specs.declared.answer.Answer.TheVariants.{Done, None as NoneAnswer}
 use Rattle.cfs_steps.specs.declared.contents.Row.{Row}
 use Rattle.cfs_steps.specs.declared.contents.DirRec.{DirRec}
-use Rattle.cfs_rules.specs.Places.{Shard, serve_shard, opening_shard, empty_shard, opening_part, empty_attr, unmoved, made_at, inserted, updated, with_recs, new_dir, settled_dir, settle_dir_owner, taken_back_dir, take_owned_dir}
+use Rattle.cfs_rules.specs.Locks.{lock_met}
+use Rattle.cfs_rules.specs.Places.{Shard, serve_free, serve_shard, unless_locked, opening_shard, empty_shard, opening_part, root_rec, unmoved, made_at, inserted, updated, with_recs, new_dir, settled_dir, settle_dir_owner, taken_back_dir, take_owned_dir}
 use Rattle.cfs_shard.specs.Bounds.{Within, CountsWithin}
 
 more : (n : ℕ) (s : Shard) → CountsWithin n s → CountsWithin (n + 1) s
@@ -76,20 +78,24 @@ take-within n s c dir (Some r) h = by_owner r.owner
     by_owner None = more n s h
     by_owner (Some owner) = by_test (owner.0 == c.0)
 
-pub serve-within : (n : ℕ) (s : Shard) (at : Stamp) (ask : Ask) → CountsWithin n s → CountsWithin (n + 1) (serve_shard s at ask).contents
-serve-within n s at (Read dir name) h = more n s h
-serve-within n s at (ListAsk dir) h = more n s h
-serve-within n s at (Insert client dir name node ts) h = insert-within n s at client dir name node ts (get s.recs dir.0) refl (get s.rows (row_key dir name)) h
-serve-within n s at (Put client place home) h = more n s h
-serve-within n s at (PutDir client place dir name) h = set-within n s (made_at at) (new_dir client dir name at.number) (record { children = omega arith; subdirs = omega arith }) h
-serve-within n s at (Settle (Dir dir)) h = settle-within n s dir (get s.recs dir.0) refl h
-serve-within n s at (Settle (File file)) h = more n s h
-serve-within n s at (TakeBack client (Dir dir)) h = take-within n s client dir (get s.recs dir.0) h
-serve-within n s at (TakeBack client (File file)) h = more n s h
-serve-within n s at (End client) h = more n s h
+serve_free-within : (n : ℕ) (s : Shard) (at : Stamp) (ask : Ask) → CountsWithin n s → CountsWithin (n + 1) (serve_free s at ask).contents
+serve_free-within n s at (Read dir name) h = more n s h
+serve_free-within n s at (ListAsk dir) h = more n s h
+serve_free-within n s at (Insert client dir name node ts) h = insert-within n s at client dir name node ts (get s.recs dir.0) refl (get s.rows (row_key dir name)) h
+serve_free-within n s at (Put client place home) h = more n s h
+serve_free-within n s at (PutDir client place dir name) h = set-within n s (made_at at) (new_dir client dir name at.number) (record { children = omega arith; subdirs = omega arith }) h
+serve_free-within n s at (Settle (Dir dir)) h = settle-within n s dir (get s.recs dir.0) refl h
+serve_free-within n s at (Settle (File file)) h = more n s h
+serve_free-within n s at (TakeBack client (Dir dir)) h = take-within n s client dir (get s.recs dir.0) h
+serve_free-within n s at (TakeBack client (File file)) h = more n s h
+serve_free-within n s at (End client) h = more n s h
 
-abbrev root_rec : DirRec
-root_rec = record { attr = empty_attr; back = None; owner = None }
+pub serve-within : (n : ℕ) (s : Shard) (at : Stamp) (ask : Ask) → CountsWithin n s → CountsWithin (n + 1) (serve_shard s at ask).contents
+serve-within n s at ask h = by_lock (lock_met s.locks s.recs ask)
+  where
+    by_lock : (o : Option JobNo) → CountsWithin (n + 1) (unless_locked o s (serve_free s at ask)).contents
+    by_lock None = serve_free-within n s at ask h
+    by_lock (Some job) = more n s h
 
 none_there : (d : ℕ) (r : DirRec) → get (empty {X = DirRec} {R = nat_cmp}) d ≡ Some r → ⊥
 none_there d r e = let none = get-empty {X = DirRec} nat_cmp d in differ none e
@@ -148,17 +154,24 @@ take-few s c dir (Some r) = by_owner r.owner
     by_owner None = omega arith
     by_owner (Some owner) = by_test (owner.0 == c.0)
 
+serve_free-few : (s : Shard) (at : Stamp) (ask : Ask) → len (serve_free s at ask).contents.recs ≤ len s.recs + 1
+serve_free-few s at (Read dir name) = omega arith
+serve_free-few s at (ListAsk dir) = omega arith
+serve_free-few s at (Insert client dir name node ts) = insert-few s at client dir name node ts (get s.recs dir.0) (get s.rows (row_key dir name))
+serve_free-few s at (Put client place home) = omega arith
+serve_free-few s at (PutDir client place dir name) = set-few s.recs (made_at at) (new_dir client dir name at.number)
+serve_free-few s at (Settle (Dir dir)) = settle-few s dir (get s.recs dir.0)
+serve_free-few s at (Settle (File file)) = omega arith
+serve_free-few s at (TakeBack client (Dir dir)) = take-few s client dir (get s.recs dir.0)
+serve_free-few s at (TakeBack client (File file)) = omega arith
+serve_free-few s at (End client) = omega arith
+
 pub serve-few : (s : Shard) (at : Stamp) (ask : Ask) → len (serve_shard s at ask).contents.recs ≤ len s.recs + 1
-serve-few s at (Read dir name) = omega arith
-serve-few s at (ListAsk dir) = omega arith
-serve-few s at (Insert client dir name node ts) = insert-few s at client dir name node ts (get s.recs dir.0) (get s.rows (row_key dir name))
-serve-few s at (Put client place home) = omega arith
-serve-few s at (PutDir client place dir name) = set-few s.recs (made_at at) (new_dir client dir name at.number)
-serve-few s at (Settle (Dir dir)) = settle-few s dir (get s.recs dir.0)
-serve-few s at (Settle (File file)) = omega arith
-serve-few s at (TakeBack client (Dir dir)) = take-few s client dir (get s.recs dir.0)
-serve-few s at (TakeBack client (File file)) = omega arith
-serve-few s at (End client) = omega arith
+serve-few s at ask = by_lock (lock_met s.locks s.recs ask)
+  where
+    by_lock : (o : Option JobNo) → len (unless_locked o s (serve_free s at ask)).contents.recs ≤ len s.recs + 1
+    by_lock None = serve_free-few s at ask
+    by_lock (Some job) = omega arith
 
 pub opening-few : (index : ℕ) → len (opening_part index).recs ≤ 1
 opening-few index = by_test (index == 0)

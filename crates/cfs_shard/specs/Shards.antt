@@ -1,12 +1,13 @@
--- What a shard shows: its rows and records, its log, its last number and its index.
+-- What a shard shows: its rows, records and locks, its log, its last number and its index.
 use Rattle.std.specs.Prelude.{ℕ, List}
 use Rattle.cfs_steps.specs.declared.entry.Entry.{Entry}
+use Rattle.cfs_table.specs.Flat.{flat}
 use Rattle.cfs_table.specs.Tables.{contents_of as table_of}
 use Rattle.cfs_rules.specs.Places.{Shard as Contents}
 use Rattle.cfs_shard.specs.declared.shard.Shard.{Shard}
 
 abbrev pub contents_of : Shard → Contents
-contents_of shard = table_of shard.table
+contents_of shard = record (table_of shard.table) { locks = flat shard.locks }
 
 abbrev pub log_of : Shard → List Entry
 log_of shard = shard.log

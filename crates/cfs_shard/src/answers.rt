@@ -4,11 +4,11 @@ ghost use Rattle.std.specs.FinMap as map;
 ghost use Rattle.cfs_ids.specs.Maps.{row_key};
 ghost use Rattle.cfs_table.specs.Tables.{contents_of};
 ghost use Rattle.cfs_steps.specs.Phases.{maker};
-ghost use Rattle.cfs_rules.specs.Places.{serve_shard, list_rows, read_row, inserted, made_at, settled_dir, taken_back_dir};
+ghost use Rattle.cfs_rules.specs.Places.{serve_free, unless_locked, list_rows, read_row, inserted, made_at, settled_dir, taken_back_dir};
 ghost use Rattle.cfs_shard.specs.Owners.{owns};
 
-use cfs_ids::{Call, Client, DirId, Name, NoMemory, Node, Stamp, Ts};
-use cfs_steps::{Answer, Ask, Move, Moved};
+use cfs_ids::{Client, DirId, JobNo, Name, NoMemory, Node, Stamp, Ts};
+use cfs_steps::{Answer, Ask, Move, Moved, maker};
 use cfs_table::Table;
 
 /// What serving an ask gives beside the change.
@@ -35,17 +35,6 @@ fn list(table: &Table, dir: DirId) -> Result<Answer, NoMemory>
     match table.rec(dir) {
         Some(_) => Ok(Answer::Rows(table.rows_of(dir)?)),
         None => Ok(Answer::NoDir),
-    }
-}
-
-// The call that makes the node at the name.
-fn maker(dir: DirId, name: &Name, node: Node) -> Result<Call, NoMemory>
-    ensures { IfOk result (λ call. call ≡ maker dir name.now node) }
-{
-    let name = name.copy()?;
-    match node {
-        Node::File(_) => Ok(Call::Create { dir, name }),
-        Node::Dir(_) => Ok(Call::Mkdir { dir, name }),
     }
 }
 
@@ -135,11 +124,11 @@ fn unmoved(answer: Answer) -> Told
     }
 }
 
-/// What the table gives for the ask at a step, beside the change.
-pub fn answer(table: &Table, at: Stamp, ask: &Ask) -> Result<Told, NoMemory>
+// What the table gives for the ask at a step, beside the change, where no lock is met.
+fn answer(table: &Table, at: Stamp, ask: &Ask) -> Result<Told, NoMemory>
     requires { at.number < 1099511627777 }
-    ensures answer { IfOk result (λ told. told.answer ≡ (serve_shard (contents_of table.now) at ask.now).answer) }
-    ensures moved { IfOk result (λ told. told.moved ≡ (serve_shard (contents_of table.now) at ask.now).moved) }
+    ensures answer { IfOk result (λ told. told.answer ≡ (serve_free (contents_of table.now) at ask.now).answer) }
+    ensures moved { IfOk result (λ told. told.moved ≡ (serve_free (contents_of table.now) at ask.now).moved) }
 {
     match ask {
         Ask::Read { dir, name } => Ok(unmoved(read(table, *dir, name))),
@@ -160,5 +149,17 @@ pub fn answer(table: &Table, at: Stamp, ask: &Ask) -> Result<Told, NoMemory>
             node: Node::Dir(dir),
         } => Ok(unmoved(take_back(table, *client, *dir))),
         _ => Ok(unmoved(Answer::None)),
+    }
+}
+
+/// What serving the ask at a step gives beside the change, where the lock of this job is met, or none.
+pub fn tell(met: Option<JobNo>, table: &Table, at: Stamp, ask: &Ask) -> Result<Told, NoMemory>
+    requires { at.number < 1099511627777 }
+    ensures answer { IfOk result (λ told. told.answer ≡ (unless_locked met (contents_of table.now) (serve_free (contents_of table.now) at ask.now)).answer) }
+    ensures moved { IfOk result (λ told. told.moved ≡ (unless_locked met (contents_of table.now) (serve_free (contents_of table.now) at ask.now)).moved) }
+{
+    match met {
+        Some(job) => Ok(unmoved(Answer::Locked(job))),
+        None => answer(table, at, ask),
     }
 }

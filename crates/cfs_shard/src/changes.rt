@@ -5,11 +5,11 @@ ghost use Rattle.cfs_ids.specs.Maps.{row_key};
 ghost use Rattle.cfs_ids.specs.Namespace.{is_dir};
 ghost use Rattle.cfs_steps.specs.declared.contents.DirRec.{DirRec};
 ghost use Rattle.cfs_table.specs.Tables.{contents_of};
-ghost use Rattle.cfs_rules.specs.Places.{serve_shard, inserted, updated, with_recs, put_dir, settled_dir, taken_back_dir};
+ghost use Rattle.cfs_rules.specs.Places.{serve_free, unless_locked, inserted, updated, with_recs, put_dir, settled_dir, taken_back_dir};
 ghost use Rattle.cfs_shard.specs.Bounds.{Within, CountsWithin};
 
 use crate::answers::{is_owner, made};
-use cfs_ids::{Client, DirAttr, DirId, Name, NoMemory, Node, Stamp, Ts, later};
+use cfs_ids::{Client, DirAttr, DirId, JobNo, Name, NoMemory, Node, Stamp, Ts, later};
 use cfs_steps::Ask;
 use cfs_table::{DirRec, Row, Table};
 
@@ -110,6 +110,7 @@ fn put(
         attr,
         back: Some((dir, name.copy()?)),
         owner: Some(client),
+        lock: None,
     };
     set_rec(table, made(at), rec)
 }
@@ -144,11 +145,11 @@ fn take_back(table: &mut Table, client: Client, dir: DirId)
     }
 }
 
-/// Makes the table's change at a step.
-pub fn change(table: &mut Table, at: Stamp, ask: &Ask) -> Result<(), NoMemory>
+// Makes the table's change at a step where no lock is met.
+fn change(table: &mut Table, at: Stamp, ask: &Ask) -> Result<(), NoMemory>
     requires counts { CountsWithin 9223372036854775807 (contents_of table.old) }
     requires number { at.number < 1099511627777 }
-    ensures ok { OnOk result (contents_of table.new ≡ (serve_shard (contents_of table.old) at ask.now).contents) }
+    ensures ok { OnOk result (contents_of table.new ≡ (serve_free (contents_of table.old) at ask.now).contents) }
     ensures err { OnErr result (table.new ≡ table.old) }
 {
     match ask {
@@ -176,5 +177,23 @@ pub fn change(table: &mut Table, at: Stamp, ask: &Ask) -> Result<(), NoMemory>
             Ok(())
         }
         _ => Ok(()),
+    }
+}
+
+/// Makes the table's change at a step, where the lock of this job is met, which stops each change, or none.
+pub fn change_unless(
+    met: Option<JobNo>,
+    table: &mut Table,
+    at: Stamp,
+    ask: &Ask,
+) -> Result<(), NoMemory>
+    requires counts { CountsWithin 9223372036854775807 (contents_of table.old) }
+    requires number { at.number < 1099511627777 }
+    ensures ok { OnOk result (contents_of table.new ≡ (unless_locked met (contents_of table.old) (serve_free (contents_of table.old) at ask.now)).contents) }
+    ensures err { OnErr result (table.new ≡ table.old) }
+{
+    match met {
+        Some(_) => Ok(()),
+        None => change(table, at, ask),
     }
 }

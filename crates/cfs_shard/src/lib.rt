@@ -1,11 +1,13 @@
-//! A shard: rows, records of directories, and a log.
+//! A shard: rows, records of directories, locks of names, and a log.
 #![tactic(auto)]
 
 mod answers;
 mod changes;
+mod locks;
 mod shard;
 #[cfg(test)]
 mod tests;
 
+pub use cfs_steps::RowLock;
 pub use cfs_table::{DirRec, Row};
 pub use shard::Shard;

@@ -1,7 +1,16 @@
-//! Rows and directories, set and read, on values typed by hand.
-use crate::Shard;
-use cfs_ids::{Actor, Call, Client, DirAttr, DirId, FileId, Name, Node, PlaceNo, Stamp};
+//! Rows and directories, set and read, and the locks that asks meet, on values typed by hand.
+ghost use Rattle.std.specs.Prelude.{◌≡◌, IfOk};
+ghost use Rattle.cfs_steps.specs.Asks.{place_of, shard_of};
+ghost use Rattle.cfs_shard.specs.Shards.{index_of};
+
+use crate::locks::met;
+use crate::{DirRec, Row, RowLock, Shard};
+use cfs_ids::{
+    Actor, Call, Client, DirAttr, DirId, FileId, JobNo, Kind, Name, Node, PlaceNo, Side, Stamp,
+};
+use cfs_maps::{NameMap, NumberMap};
 use cfs_steps::{Answer, Ask, Moved};
+use cfs_table::Table;
 use std::alloc::Global;
 use std::test::Fail;
 
@@ -14,7 +23,9 @@ const CLIENT: Client = Client(1);
 const OTHER: Client = Client(2);
 
 // A shard 1 with directory 65, which the client put as its first step.
-fn with_a_directory(alloc: Global) -> Result<Shard, Fail> {
+fn with_a_directory(alloc: Global) -> Result<Shard, Fail>
+    ensures { IfOk result (λ shard. index_of shard ≡ 1) }
+{
     let mut shard = Shard::new(alloc, 1)?;
     let put = Ask::PutDir {
         client: CLIENT,
@@ -24,6 +35,19 @@ fn with_a_directory(alloc: Global) -> Result<Shard, Fail> {
     };
     shard.serve(Actor::Client(CLIENT), 0, &put)?;
     Ok(shard)
+}
+
+// The ask to set a row of the file at a name of the directory.
+fn insert(alloc: Global, dir: DirId, name: &[u8], file: u64) -> Result<Ask, Fail>
+    ensures { IfOk result (λ ask. place_of ask ≡ shard_of dir) }
+{
+    Ok(Ask::Insert {
+        client: CLIENT,
+        dir,
+        name: Name::read(alloc, name)?,
+        node: Node::File(FileId(file)),
+        ts: 1,
+    })
 }
 
 #[test]
@@ -70,7 +94,7 @@ fn serves(rt: HostRuntime) -> Result<(), Fail> {
 fn shows(rt: HostRuntime) -> Result<(), Fail> {
     let actor = Actor::Client(CLIENT);
     let mut shard = Shard::new(rt.alloc(), 0)?;
-    let list = shard.serve(actor, 8, &Ask::List { dir: DirId(7) })?;
+    let list = shard.serve(actor, 8, &Ask::List { dir: DirId(64) })?;
     assert!(rt; matches!(&list.answer, Answer::NoDir));
     assert_eq!(rt; shard.count(), 1);
     assert_eq!(rt; shard.last(), 9);
@@ -187,5 +211,158 @@ fn a_settled_directory_stays(rt: HostRuntime) -> Result<(), Fail> {
         return Ok(());
     };
     assert_eq!(rt; (dir, rec.owner), (DIR, None));
+    Ok(())
+}
+
+#[test]
+fn goes_over_its_rows(rt: HostRuntime) -> Result<(), Fail> {
+    let alloc = rt.alloc();
+    let (a, b) = (Name::read(alloc, b"a")?, Name::read(alloc, b"b")?);
+    let actor = Actor::Client(CLIENT);
+    let mut shard = Shard::new(alloc, 0)?;
+    shard.serve(actor, 0, &insert(alloc, ROOT, b"b", 64)?)?;
+    shard.serve(actor, 1, &insert(alloc, ROOT, b"a", 128)?)?;
+    let row = |file, number| Row {
+        node: Node::File(FileId(file)),
+        stamp: Stamp {
+            number,
+            place: PlaceNo(0),
+        },
+    };
+    assert!(rt; shard.next_row(None) == Some((ROOT, &a, &row(128, 2))));
+    assert!(rt; shard.next_row(Some((ROOT, &a))) == Some((ROOT, &b, &row(64, 1))));
+    assert!(rt; shard.next_row(Some((ROOT, &b))).is_none());
+    assert_eq!(rt; shard.rec(ROOT).map(|rec| rec.attr.children), Some(2));
+    assert!(rt; shard.rec(DirId(64)).is_none());
+    Ok(())
+}
+
+#[test]
+fn a_new_shard_has_no_lock(rt: HostRuntime) -> Result<(), Fail> {
+    let alloc = rt.alloc();
+    let actor = Actor::Client(CLIENT);
+    let name = Name::read(alloc, b"a")?;
+    let mut shard = Shard::new(alloc, 0)?;
+    assert!(rt; shard.next_lock(None).is_none());
+    let read = Ask::Read {
+        dir: ROOT,
+        name: name.copy()?,
+    };
+    let absent = shard.serve(actor, 0, &read)?;
+    assert!(rt; matches!(&absent.answer, Answer::Absent));
+    let list = shard.serve(actor, 1, &Ask::List { dir: ROOT })?;
+    assert!(rt; matches!(&list.answer, Answer::Rows(_)));
+    let insert = Ask::Insert {
+        client: CLIENT,
+        dir: ROOT,
+        name,
+        node: Node::File(FileId(64)),
+        ts: 1,
+    };
+    let set = shard.serve(actor, 2, &insert)?;
+    assert!(rt; matches!(&set.answer, Answer::Done(None)));
+    let again = shard.serve(actor, 3, &insert)?;
+    assert!(rt; matches!(&again.answer, Answer::Exists));
+    assert!(rt; shard.next_lock(None).is_none());
+    Ok(())
+}
+
+// Locks on names of directory 65: job 1 gives s up, job 2 takes t, and job 3 took c.
+fn three_locks(alloc: Global) -> Result<NumberMap<NameMap<RowLock>>, Fail> {
+    let mut locks = NumberMap::new(alloc);
+    let sides = [
+        (b"s", 1, Side::Source),
+        (b"t", 2, Side::Target),
+        (b"c", 3, Side::Committed),
+    ];
+    for (name, job, side) in sides {
+        let lock = RowLock {
+            job: JobNo(job),
+            side,
+        };
+        let _ = locks.set_name(alloc, DIR.0, Name::read(alloc, name)?, lock);
+    }
+    Ok(locks)
+}
+
+// A table with the record of directory 65, and this lock on it.
+fn with_a_record(alloc: Global, lock: Option<(JobNo, Kind)>) -> Result<Table, Fail> {
+    let attr = DirAttr {
+        children: 0,
+        subdirs: 0,
+        time: 1,
+    };
+    let rec = DirRec {
+        attr,
+        back: Some((ROOT, Name::read(alloc, b"d")?)),
+        owner: None,
+        lock,
+    };
+    let mut table = Table::new(alloc);
+    let _ = table.set_rec(DIR, rec);
+    Ok(table)
+}
+
+// The ask for the row at a name of directory 65.
+fn read(alloc: Global, name: &[u8]) -> Result<Ask, Fail> {
+    Ok(Ask::Read {
+        dir: DIR,
+        name: Name::read(alloc, name)?,
+    })
+}
+
+#[test]
+fn meets_the_locks_of_names(rt: HostRuntime) -> Result<(), Fail> {
+    let alloc = rt.alloc();
+    let locks = three_locks(alloc)?;
+    let table = with_a_record(alloc, None)?;
+    let asks = [
+        (read(alloc, b"s")?, Some(JobNo(1))),
+        (read(alloc, b"t")?, None),
+        (read(alloc, b"c")?, None),
+        (read(alloc, b"a")?, None),
+        (insert(alloc, DIR, b"s", 64)?, Some(JobNo(1))),
+        (insert(alloc, DIR, b"t", 64)?, Some(JobNo(2))),
+        (insert(alloc, DIR, b"c", 64)?, Some(JobNo(3))),
+        (insert(alloc, DIR, b"a", 64)?, None),
+        (Ask::List { dir: DIR }, Some(JobNo(1))),
+        (Ask::List { dir: ROOT }, None),
+    ];
+    for (ask, job) in asks {
+        assert_eq!(rt; met(&locks, &table, &ask), job, "{ask:?}");
+    }
+    Ok(())
+}
+
+#[test]
+fn meets_the_job_that_replaces_the_directory(rt: HostRuntime) -> Result<(), Fail> {
+    let alloc = rt.alloc();
+    let locks = three_locks(alloc)?;
+    let list = Ask::List { dir: DIR };
+    let other = insert(alloc, DIR, b"a", 64)?;
+    let table = with_a_record(alloc, Some((JobNo(4), Kind::Replacing)))?;
+    assert_eq!(rt; met(&locks, &table, &list), Some(JobNo(4)));
+    assert_eq!(rt; met(&locks, &table, &other), Some(JobNo(4)));
+    assert_eq!(rt; met(&locks, &table, &read(alloc, b"a")?), None);
+    let table = with_a_record(alloc, Some((JobNo(4), Kind::Moving)))?;
+    assert_eq!(rt; met(&locks, &table, &list), Some(JobNo(1)));
+    assert_eq!(rt; met(&locks, &table, &other), None);
+    Ok(())
+}
+
+#[test]
+fn meets_no_lock_where_no_record_is_but_at_a_read(rt: HostRuntime) -> Result<(), Fail> {
+    let alloc = rt.alloc();
+    let locks = three_locks(alloc)?;
+    let table = Table::new(alloc);
+    let asks = [
+        (read(alloc, b"s")?, Some(JobNo(1))),
+        (insert(alloc, DIR, b"s", 64)?, None),
+        (insert(alloc, DIR, b"t", 64)?, None),
+        (Ask::List { dir: DIR }, None),
+    ];
+    for (ask, job) in asks {
+        assert_eq!(rt; met(&locks, &table, &ask), job, "{ask:?}");
+    }
     Ok(())
 }

@@ -1,7 +1,7 @@
 //! What a place answers.
 ghost use Rattle.std.specs.Prelude.{◌≡◌, IfOk};
 
-use cfs_ids::{NoMemory, Node, RowList, Stamp};
+use cfs_ids::{JobNo, NoMemory, Node, RowList, Stamp};
 
 /// The answer to an ask. Which comes when stands in docs/protocol.md.
 #[derive(Clone, Debug, Drop)]
@@ -12,6 +12,8 @@ pub enum Answer {
     Found(Node, Stamp),
     /// The directory has no record.
     NoDir,
+    /// The job whose lock stands in the way of the ask.
+    Locked(JobNo),
     Rows(RowList),
     /// The node that was put.
     New(Node),

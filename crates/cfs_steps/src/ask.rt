@@ -53,15 +53,15 @@ pub enum Ask {
     },
 }
 
-// The shard of a directory: its number modulo 64.
-fn shard_of(dir: DirId) -> PlaceNo
+/// The shard of a directory: its number modulo 64.
+pub fn shard_of(dir: DirId) -> PlaceNo
     ensures { result ≡ Rattle.cfs_steps.specs.Asks.shard_of dir }
 {
     PlaceNo((dir.0 % 64) as u32)
 }
 
-// The place of a node's record: the shard of a directory, the store of a file.
-fn home_of(node: Node) -> PlaceNo
+/// The place of a node's record: the shard of a directory, the store of a file.
+pub fn home_of(node: Node) -> PlaceNo
     ensures { result ≡ Rattle.cfs_steps.specs.Asks.home_of node }
 {
     match node {

@@ -15,12 +15,12 @@ mod serve_fault;
 mod tests;
 
 pub use answer::Answer;
-pub use ask::Ask;
+pub use ask::{Ask, home_of, shard_of};
 pub use call_done::{CallDone, CallList, ClientCalls};
-pub use contents::{DirRec, FileRec, Row};
+pub use contents::{DirRec, FileRec, Row, RowLock};
 pub use entry::Entry;
 pub use line::{HistoryItem, Line, Outcome};
 pub use log::{LOG_LIMIT, Log, NUMBER_LIMIT};
 pub use machine::Machine;
-pub use moves::{Move, Moved};
+pub use moves::{Move, Moved, maker};
 pub use serve_fault::ServeFault;

@@ -1,7 +1,8 @@
 //! The changes of the namespace.
 ghost use Rattle.std.specs.Prelude.{◌≡◌, IfOk};
+ghost use Rattle.cfs_steps.specs.Phases.{maker};
 
-use cfs_ids::{Call, Client, NoMemory, Node, Ts};
+use cfs_ids::{Call, Client, DirId, Name, NoMemory, Node, Ts};
 
 /// A change of the namespace by a client's call: its time, and the node that it made.
 #[derive(Clone, Debug, Drop)]
@@ -24,5 +25,16 @@ impl Moved {
         ensures { IfOk result (λ copy. copy ≡ self.now) }
     {
         Ok(self.clone()?)
+    }
+}
+
+/// The call that makes the node at the name: a create makes a file, and a mkdir a directory.
+pub fn maker(dir: DirId, name: &Name, node: Node) -> Result<Call, NoMemory>
+    ensures { IfOk result (λ call. call ≡ maker dir name.now node) }
+{
+    let name = name.copy()?;
+    match node {
+        Node::File(_) => Ok(Call::Create { dir, name }),
+        Node::Dir(_) => Ok(Call::Mkdir { dir, name }),
     }
 }

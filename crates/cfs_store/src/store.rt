@@ -7,7 +7,10 @@ ghost use Rattle.std.specs.Map.Iter.{ShowsInOrder, deref_pair};
 ghost use Rattle.cfs_ids.specs.declared.ids.FileId.{FileId};
 ghost use Rattle.cfs_steps.specs.declared.contents.FileRec.{FileRec};
 ghost use Rattle.cfs_maps.specs.Walks.{entries_after, first_of};
+ghost use Rattle.cfs_steps.specs.Asks.{place_of};
+ghost use Rattle.cfs_rules.specs.Homes.{IsOwnStore};
 ghost use Rattle.cfs_rules.specs.Places.{serve_store, entry_by, number_after, is_full};
+ghost use Rattle.std.proofs.Props.{props};
 
 use crate::table::{answer, change};
 use cfs_ids::{Actor, FileId, NoMemory, PlaceNo, Stamp, Ts, later, number_of};
@@ -26,6 +29,7 @@ pub struct Store {
     ghost small: { index < 64 },
     ghost few: { map.len files ≤ length log },
     ghost short: { length log ≤ 1048576 },
+    ghost own: { IsOwnStore index files } by { Prim.hlevel props },
 }
 
 impl Store {
@@ -69,6 +73,13 @@ impl Store {
         self.log.get(i)
     }
 
+    /// The record of the file. None comes exactly where there is no such record.
+    pub fn file(&self, file: FileId) -> Option<&FileRec>
+        ensures { option_copied result ≡ map.get (contents_of self.now) file.0 }
+    {
+        self.files.get(file.0)
+    }
+
     /// The files and their records, by rising files.
     pub fn files(&self) -> Iter<'_, u64, FileRec>
         ensures rest { result ≡ map.entries (contents_of self.now) }
@@ -95,9 +106,11 @@ impl Store {
         self.log.len() >= LOG_LIMIT || number_of(later(last, self.last)) >= NUMBER_LIMIT
     }
 
-    /// Serves an ask of the actor, whose last number is `last`, by the store's table, and logs the step. LogFull comes
-    /// exactly where the log has 1,048,576 entries, or a last number is 2^40 or more. On Err the store is as before.
+    /// Serves an ask of the actor, whose last number is `last`, by the store's table, and logs the step. The ask's place
+    /// is to be this store. LogFull comes exactly where the log has 1,048,576 entries, or a last number is 2^40 or more. On
+    /// Err the store is as before.
     pub fn serve(&mut self, actor: Actor, last: Ts, ask: &Ask) -> Result<Entry, ServeFault>
+        requires here { (place_of ask.now).0 ≡ 64 + index_of self.old }
         ensures entry { let number = number_after last (last_of self.old) in IfOk result (λ entry. entry ≡ entry_by actor number ask.now (serve_store (contents_of self.old) (record { number = number; place = record { 0 = 64 + index_of self.old } }) ask.now)) }
         ensures contents { let number = number_after last (last_of self.old) in OnOk result (contents_of self.new ≡ (serve_store (contents_of self.old) (record { number = number; place = record { 0 = 64 + index_of self.old } }) ask.now).contents) }
         ensures log { IfOk result (λ entry. log_of self.new ≡ log_of self.old ++ entry ∷ []) }

@@ -1,13 +1,12 @@
 -- The names of a directory, and whether any row passes a test, by the one map and directory by directory.
-use Rattle.std.proofs.Common.{◌≡◌, ℕ, List, [], ◌∷◌, ◌++◌, map, length, Bool, true, false, cond, refl, sym, ◌∙◌, ap, subst}
+use Rattle.std.proofs.Common.{◌≡◌, ℕ, List, [], ◌∷◌, ◌++◌, map, Bool, true, false, cond, refl, sym, ◌∙◌, ap, subst}
 use Rattle.std.specs.Prelude.{T, ◌||◌, ◌&&◌, Option, Some, None}
 use Rattle.std.specs.List.{list_any}
 use Rattle.std.specs.Option.{option_map}
 use Rattle.std.specs.declared.cmp.Ordering.{Ordering}
 use Rattle.std.specs.Ordering.{nat_cmp, is_lt}
-use Rattle.std.specs.Cmp.{IsTotalOrder}
 use Rattle.std.specs.Cmp.Lexicographic.{slice_cmp, nat_list_cmp_total}
-use Rattle.std.specs.FinMap.{get, empty, entries, entries_sorted, find, is_sorted, from_entries, from_sorted, entries-from_sorted, get-from_sorted, get-entries, get-from_entries, get-empty, len-entries, len-empty, entries-insert, same_map, nat_cmp-IsAntisymmetric, slice_cmp-IsAntisymmetric}
+use Rattle.std.specs.FinMap.{get, empty, entries, entries_sorted, find, is_sorted, from_entries, from_sorted, entries-from_sorted, get-from_sorted, get-entries, get-from_entries, get-empty, same_map, nat_cmp-IsAntisymmetric, slice_cmp-IsAntisymmetric}
 use Rattle.std.specs.FinMap.Entries.{below_all}
 use Rattle.cfs_ids.specs.Maps.{Names, Numbers, within}
 use Rattle.cfs_ids.proofs.MapLemmas.{find-within}

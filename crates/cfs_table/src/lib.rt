@@ -9,3 +9,4 @@ mod walk;
 
 pub use cfs_steps::{DirRec, Row};
 pub use table::Table;
+pub use walk::next_in;

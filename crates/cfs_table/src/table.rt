@@ -17,7 +17,7 @@ ghost use Rattle.cfs_rules.specs.Trees.{is_named, is_placed};
 ghost use Rattle.cfs_table.specs.Tables.{contents_of};
 
 use crate::listing::{add_all, any_names, listed};
-use crate::walk::{first_row, row_above};
+use crate::walk::next_in;
 use cfs_ids::{DirId, FileId, Name, NoMemory, Node, RowList};
 use cfs_maps::{NameMap, NodeSet, NumberMap};
 use cfs_steps::{DirRec, Row};
@@ -129,14 +129,7 @@ impl Table {
     pub fn next_row(&self, after: Option<(DirId, &Name)>) -> Option<(DirId, &Name, &Row)>
         ensures { option_map (λ entry. (row_key entry.0 entry.1.now, entry.2.now)) result ≡ first_of (entries_after (slice_cmp nat_cmp) (option_map (λ place. row_key place.0 place.1.now) after.entry) (map.entries (contents_of self.now).rows)) }
     {
-        let row = match after {
-            Some((dir, name)) => row_above(&self.rows, dir.0, name),
-            None => first_row(&self.rows, None),
-        };
-        match row {
-            Some((dir, name, row)) => Some((DirId(dir), name, row)),
-            None => None,
-        }
+        next_in(&self.rows, after)
     }
 
     /// The records, by rising directories.

@@ -30,6 +30,7 @@ fn rec_of(children: u64) -> DirRec {
         attr: attr_of(children),
         back: None,
         owner: None,
+        lock: None,
     }
 }
 

@@ -1,9 +1,13 @@
+pub mod Changing
 pub mod Collected
+pub mod Composing
 pub mod Counted
-pub mod HeldSteps
+pub mod Finding
 pub mod OneOfSeveral
 pub mod Openings
+pub mod RowWalks
 pub mod Serving
 pub mod TreeParts
+pub mod WholeChecks
 pub mod WholeCounts
 pub mod WholeTree

@@ -1,22 +1,34 @@
 -- The shards and the stores with which a service opens.
-use Rattle.std.proofs.Common.{◌≡◌, ◌≢◌, ℕ, suc, zero, ◌+◌, ◌<◌, ◌≤◌, List, [], ◌∷◌, ◌++◌, length, map, Bool, true, false, refl, sym, ◌∙◌, ap, subst, arith}
-use Rattle.std.specs.Prelude.{◌==◌, if◌then◌else◌, Option, Some, None}
+use Rattle.std.proofs.Common.{◌≡◌, ◌≢◌, ℕ, suc, zero, ◌+◌, ◌<◌, ◌≤◌, List, [], ◌∷◌, ◌++◌, length, length-append, map, reverse, Bool, true, false, refl, sym, ◌∙◌, ap, subst, arith}
+use Rattle.std.specs.Prelude.{◌==◌, if◌then◌else◌, Some, None}
 use Rattle.std.proofs.lemmas.Bool.Decides.{nat_tests}
 use Rattle.std.specs.Ordering.{nat_cmp}
 use Rattle.std.specs.Cmp.{nat_cmp_total}
 use Rattle.std.specs.Cmp.Lexicographic.{slice_cmp, nat_list_cmp_total}
-use Rattle.std.specs.declared.cmp.Ordering.{Ordering}
-use Rattle.std.specs.FinMap.{FinMap, get, insert, empty, gets, get-empty, same_map, nat_cmp-IsAntisymmetric}
-use Rattle.cfs_steps.specs.declared.entry.Entry.{Entry}
+use Rattle.std.specs.FinMap.{get, empty, gets, get-empty, same_map, nat_cmp-IsAntisymmetric}
 use Rattle.cfs_steps.specs.declared.contents.Row.{Row}
+use Rattle.cfs_steps.specs.declared.contents.RowLock.{RowLock}
 use Rattle.cfs_steps.specs.declared.contents.DirRec.{DirRec}
 use Rattle.cfs_steps.specs.declared.contents.FileRec.{FileRec}
-use Rattle.cfs_rules.specs.Places.{Shard, Store, opening_shard, empty_shard, opening_part, empty_attr}
-use Rattle.cfs_rules.specs.Homes.{home_of_row, home_of_number, gathered, LieFrom, IsOwnShard, IsOwnStore, AreOwnShards, AreOwnStores, all_shards, all_stores}
+use Rattle.cfs_rules.specs.Places.{Shard, Store, opening_shard, empty_shard, opening_part}
+use Rattle.cfs_rules.specs.Homes.{home_of_row, home_of_number, IsOwnShard, IsOwnStore, AreOwnShards, AreOwnStores, all_shards, all_stores}
 use Rattle.cfs_rules.proofs.Names.{bytes_apart}
 use Rattle.cfs_rules.proofs.Homes.{get_in, get-gathered}
-use Rattle.cfs_rules.proofs.Whole.{own_rows, own_recs, own_files}
-use Rattle.cfs_rules.specs.Several.{View, contents_in, last_at, log_at, AreNumbered, AreShards, AreStores}
+use Rattle.cfs_rules.proofs.Whole.{own_rows, own_recs, own_locks, own_files}
+use Rattle.cfs_rules.specs.Several.{View, contents_in, AreNumbered, AreShards, AreStores}
+use Rattle.cfs_shard.specs.declared.shard.Shard.{Shard as ShardItem}
+use Rattle.cfs_store.specs.declared.store.Store.{Store as StoreItem}
+use Rattle.cfs_desk.specs.declared.desk.Desk.{Desk}
+use Rattle.cfs_desk.specs.Desks as desks
+use Rattle.cfs_desk.specs.declared.roster.Roster.{Roster}
+use Rattle.cfs_desk.specs.Rosters as rosters
+use Rattle.cfs_view.specs.declared.place.Place.{Place}
+use Rattle.cfs_view.specs.declared.place.Place.TheVariants as kind
+use Rattle.cfs_view.specs.Held.{opening_held}
+use Rattle.cfs_view.specs.PlaceViews.{shard_view, store_view, number_of, log_of, last_of}
+use Rattle.cfs_view.specs.PlaceLists.{shard_items, store_items, roster_in, place_in, are_shards_first, are_stores_first, AreService}
+use Rattle.cfs_view.specs.Views.{held_in, counts_in, lasts_in, logs_in, last_shown, log_shown}
+use Rattle.cfs_view.proofs.OneOfSeveral.{length-map}
 
 -- a place that has served nothing
 pub record IsFresh {C : Type 0} (opening : ℕ → C) (index : ℕ) (v : View C) : Type 0 where
@@ -38,25 +50,15 @@ module _ {C : Type 0} (opening : ℕ → C) where
   numbered first [] h = tt
   numbered first (v ∷ vs) h = (h.0.index_is, numbered (suc first) vs h.1)
 
-  pub no_lasts : (first : ℕ) (vs : List (View C)) → AreFresh first vs → (i : ℕ) → last_at vs i ≡ 0
-  no_lasts first [] h i = refl
-  no_lasts first (v ∷ vs) h zero = h.0.last
-  no_lasts first (v ∷ vs) h (suc i) = no_lasts (suc first) vs h.1 i
-
-  pub no_logs : (first : ℕ) (vs : List (View C)) → AreFresh first vs → (i : ℕ) → log_at vs i ≡ []
-  no_logs first [] h i = refl
-  no_logs first (v ∷ vs) h zero = rw h.0.log refl
-  no_logs first (v ∷ vs) h (suc i) = no_logs (suc first) vs h.1 i
-
 -- ---- shards
-abbrev root_rec : DirRec
-root_rec = record { attr = empty_attr; back = None; owner = None }
-
 no_row : (k : List ℕ) (x : Row) → get (empty {X = Row} {R = slice_cmp nat_cmp}) k ≡ Some x → ⊥
 no_row k x e = let none = get-empty {X = Row} (slice_cmp nat_cmp) k in cc
 
 no_rec : (k : ℕ) (x : DirRec) → get (empty {X = DirRec} {R = nat_cmp}) k ≡ Some x → ⊥
 no_rec k x e = let none = get-empty {X = DirRec} nat_cmp k in cc
+
+no_lock : (k : List ℕ) (x : RowLock) → get (empty {X = RowLock} {R = slice_cmp nat_cmp}) k ≡ Some x → ⊥
+no_lock k x e = let none = get-empty {X = RowLock} (slice_cmp nat_cmp) k in cc
 
 root_alone : (k : ℕ) → k ≢ 0 → get opening_shard.recs k ≡ None
 root_alone k differ = grind (arith, nat_tests, gets)
@@ -68,12 +70,13 @@ opening_own index = by_test (index == 0) refl
     by_test true t = let zero_is : index ≡ 0 = grind (arith, nat_tests) in record {
       rows = λ k x e. absurd (no_row k x e);
       recs = λ k x e. by_key k x e (k == 0) refl zero_is;
+      locks = λ k x e. absurd (no_lock k x e);
     }
       where
         by_key : (k : ℕ) (x : DirRec) → get opening_shard.recs k ≡ Some x → (b : Bool) → (k == 0) ≡ b → index ≡ 0 → home_of_number k ≡ index
         by_key k x e true t z = let same : k ≡ 0 = grind (arith, nat_tests) in rw (same, z) refl
         by_key k x e false t z = let differ : k ≢ 0 = grind (arith, nat_tests) in let none = root_alone k differ in absurd (cc)
-    by_test false t = record { rows = λ k x e. absurd (no_row k x e); recs = λ k x e. absurd (no_rec k x e) }
+    by_test false t = record { rows = λ k x e. absurd (no_row k x e); recs = λ k x e. absurd (no_rec k x e); locks = λ k x e. absurd (no_lock k x e) }
 
 own : (first : ℕ) (vs : List (View Shard)) → AreFresh opening_part first vs → AreOwnShards first (contents_in vs)
 own first [] h = tt
@@ -92,6 +95,15 @@ later_rows first (v ∷ vs) zero k h = ap (λ (s : Shard). get s.rows k) h.0.con
     by_test false = get-empty {X = Row} (slice_cmp nat_cmp) k
 later_rows first (v ∷ vs) (suc n) k h = later_rows (suc first) vs n k h.1
 
+later_locks : (first : ℕ) (vs : List (View Shard)) (n : ℕ) (k : List ℕ) → AreFresh opening_part first vs → get_in (map (λ (s : Shard). s.locks) (contents_in vs)) n k ≡ None
+later_locks first [] n k h = refl
+later_locks first (v ∷ vs) zero k h = ap (λ (s : Shard). get s.locks k) h.0.contents ∙ by_test (first == 0)
+  where
+    by_test : (b : Bool) → get (if b then opening_shard else empty_shard).locks k ≡ None
+    by_test true = get-empty {X = RowLock} (slice_cmp nat_cmp) k
+    by_test false = get-empty {X = RowLock} (slice_cmp nat_cmp) k
+later_locks first (v ∷ vs) (suc n) k h = later_locks (suc first) vs n k h.1
+
 later_recs : (first : ℕ) (vs : List (View Shard)) (n : ℕ) (k : ℕ) → AreFresh opening_part (suc first) vs → get_in (map (λ (s : Shard). s.recs) (contents_in vs)) n k ≡ None
 later_recs first [] n k h = refl
 later_recs first (v ∷ vs) zero k h = ap (λ (s : Shard). get s.recs k) h.0.contents ∙ by_test (suc first == 0) refl
@@ -107,12 +119,17 @@ all_recs (v ∷ vs) some h k zero is = ap (λ (s : Shard). get s.recs k) h.0.con
 all_recs (v ∷ vs) some h k (suc n) is = later_recs 0 vs n k h.1 ∙ sym (root_alone k (λ same. let z : home_of_number k ≡ 0 = rw same refl in omega arith))
 
 pub shards_open : (vs : List (View Shard)) → 0 < length vs → AreFresh opening_part 0 vs → all_shards (contents_in vs) ≡ opening_shard
-shards_open vs some h = λ j. record { rows = rows j; recs = recs j }
+shards_open vs some h = λ j. record { rows = rows j; recs = recs j; locks = locks j }
   where
     rows : (all_shards (contents_in vs)).rows ≡ empty
     rows = same_map nat_list_cmp_total bytes_apart _ _ (λ k.
         get-gathered nat_list_cmp_total bytes_apart home_of_row (map (λ (s : Shard). s.rows) (contents_in vs)) k (own_rows 0 (contents_in vs) (own 0 vs h))
         ∙ later_rows 0 vs (home_of_row k) k h ∙ sym (get-empty {X = Row} (slice_cmp nat_cmp) k))
+
+    locks : (all_shards (contents_in vs)).locks ≡ empty
+    locks = same_map nat_list_cmp_total bytes_apart _ _ (λ k.
+        get-gathered nat_list_cmp_total bytes_apart home_of_row (map (λ (s : Shard). s.locks) (contents_in vs)) k (own_locks 0 (contents_in vs) (own 0 vs h))
+        ∙ later_locks 0 vs (home_of_row k) k h ∙ sym (get-empty {X = RowLock} (slice_cmp nat_cmp) k))
 
     recs : (all_shards (contents_in vs)).recs ≡ opening_shard.recs
     recs = same_map nat_cmp_total nat_cmp-IsAntisymmetric _ _ (λ k.
@@ -147,3 +164,146 @@ stores_open vs h = same_map nat_cmp_total nat_cmp-IsAntisymmetric _ _ (λ k.
 pub map-more : {A B : Type 0} (f : A → B) (xs : List A) (x : A) → map f (xs ++ x ∷ []) ≡ map f xs ++ f x ∷ []
 map-more f [] x = refl
 map-more f (y ∷ ys) x = ap (λ l. f y ∷ l) (map-more f ys x)
+
+-- no place has served an ask
+abbrev pub AreQuiet : List Place → Type 0
+AreQuiet [] = Unit {0}
+AreQuiet (p ∷ ps) = (last_of p ≡ 0) × (log_of p ≡ []) × AreQuiet ps
+
+quiet_more : (ps : List Place) (p : Place) → AreQuiet ps → last_of p ≡ 0 → log_of p ≡ [] → AreQuiet (ps ++ p ∷ [])
+quiet_more [] p h last log = (last, log, tt)
+quiet_more (q ∷ ps) p h last log = (h.0, h.1, quiet_more ps p h.2 last log)
+
+quiet_lasts : (ps : List Place) (n : ℕ) → AreQuiet ps → lasts_in ps n ≡ 0
+quiet_lasts [] n h = refl
+quiet_lasts (p ∷ ps) n h = by_test (number_of p == n) (quiet_lasts ps n h.2)
+  where
+    by_test : (b : Bool) → lasts_in ps n ≡ 0 → last_shown (if b then Some p else place_in ps n) ≡ 0
+    by_test true rest = h.0
+    by_test false rest = rest
+
+quiet_logs : (ps : List Place) (n : ℕ) → AreQuiet ps → logs_in ps n ≡ []
+quiet_logs [] n h = refl
+quiet_logs (p ∷ ps) n h = by_test (number_of p == n) (quiet_logs ps n h.2)
+  where
+    by_test : (b : Bool) → logs_in ps n ≡ [] → log_shown (if b then Some p else place_in ps n) ≡ []
+    by_test true rest = ap reverse h.1
+    by_test false rest = rest
+
+items-append : (ps qs : List Place) → (shard_items (ps ++ qs) ≡ shard_items ps ++ shard_items qs) × (store_items (ps ++ qs) ≡ store_items ps ++ store_items qs)
+items-append [] qs = (refl, refl)
+items-append (kind.Shard s ∷ ps) qs = let rest = items-append ps qs in (ap (λ l. s ∷ l) rest.0, rest.1)
+items-append (kind.Store t ∷ ps) qs = let rest = items-append ps qs in (rest.0, ap (λ l. t ∷ l) rest.1)
+items-append (kind.Desk d ∷ ps) qs = items-append ps qs
+items-append (kind.Roster r ∷ ps) qs = items-append ps qs
+
+append_empty : {A : Type 0} (xs : List A) → xs ++ [] ≡ xs
+append_empty [] = refl
+append_empty (x ∷ xs) = ap (λ l. x ∷ l) (append_empty xs)
+
+append_twice : {A : Type 0} (xs : List A) (y : A) (ys : List A) → (xs ++ y ∷ []) ++ ys ≡ xs ++ y ∷ ys
+append_twice [] y ys = refl
+append_twice (x ∷ xs) y ys = ap (λ l. x ∷ l) (append_twice xs y ys)
+
+-- the first shards and stores of a service, which is to have more, have served nothing
+pub record IsOpening (shards stores : ℕ) (ps : List Place) : Type 0 where
+  pub fresh_shards : AreFresh opening_part 0 (map shard_view (shard_items ps))
+  pub fresh_stores : AreFresh no_files 0 (map store_view (store_items ps))
+  pub shards_are : length (shard_items ps) ≡ shards
+  pub stores_are : length (store_items ps) ≡ stores
+  pub quiet : AreQuiet ps
+  pub clients : (qs : List Place) → roster_in (ps ++ qs) ≡ roster_in qs
+
+pub opens : IsOpening 0 0 []
+opens = record { fresh_shards = tt; fresh_stores = tt; shards_are = refl; stores_are = refl; quiet = tt; clients = λ qs. refl }
+
+pub shard_more : (n m : ℕ) (ps : List Place) (s : ShardItem) → IsOpening n m ps → IsFresh opening_part n (shard_view s) → IsOpening (n + 1) m (ps ++ kind.Shard s ∷ [])
+shard_more n m ps s h fresh =
+    let items = items-append ps (kind.Shard s ∷ []) in
+    record {
+      fresh_shards = subst (λ ss. AreFresh opening_part 0 (map shard_view ss)) (sym items.0) (subst (AreFresh opening_part 0) (sym (map-more shard_view (shard_items ps) s))
+          (fresh_more opening_part 0 (map shard_view (shard_items ps)) (shard_view s) h.fresh_shards (subst (λ k. IsFresh opening_part k (shard_view s)) (let same = length-map shard_view (shard_items ps) in omega (arith, same, h.shards_are)) fresh)));
+      fresh_stores = subst (λ ts. AreFresh no_files 0 (map store_view ts)) (sym (items.1 ∙ append_empty (store_items ps))) h.fresh_stores;
+      shards_are = ap length items.0 ∙ length-append (shard_items ps) (s ∷ []) ∙ omega (arith, h.shards_are);
+      stores_are = ap length (items.1 ∙ append_empty (store_items ps)) ∙ h.stores_are;
+      quiet = quiet_more ps (kind.Shard s) h.quiet fresh.last fresh.log;
+      clients = λ qs. ap roster_in (append_twice ps (kind.Shard s) qs) ∙ h.clients (kind.Shard s ∷ qs);
+    }
+
+pub store_more : (n m : ℕ) (ps : List Place) (t : StoreItem) → IsOpening n m ps → IsFresh no_files m (store_view t) → IsOpening n (m + 1) (ps ++ kind.Store t ∷ [])
+store_more n m ps t h fresh =
+    let items = items-append ps (kind.Store t ∷ []) in
+    record {
+      fresh_shards = subst (λ ss. AreFresh opening_part 0 (map shard_view ss)) (sym (items.0 ∙ append_empty (shard_items ps))) h.fresh_shards;
+      fresh_stores = subst (λ ts. AreFresh no_files 0 (map store_view ts)) (sym items.1) (subst (AreFresh no_files 0) (sym (map-more store_view (store_items ps) t))
+          (fresh_more no_files 0 (map store_view (store_items ps)) (store_view t) h.fresh_stores (subst (λ k. IsFresh no_files k (store_view t)) (let same = length-map store_view (store_items ps) in omega (arith, same, h.stores_are)) fresh)));
+      shards_are = ap length (items.0 ∙ append_empty (shard_items ps)) ∙ h.shards_are;
+      stores_are = ap length items.1 ∙ length-append (store_items ps) (t ∷ []) ∙ omega (arith, h.stores_are);
+      quiet = quiet_more ps (kind.Store t) h.quiet fresh.last fresh.log;
+      clients = λ qs. ap roster_in (append_twice ps (kind.Store t) qs) ∙ h.clients (kind.Store t ∷ qs);
+    }
+
+-- shards are followed by shards, or by stores
+abbrev pub StartsShards : List Place → Type 0
+StartsShards ps = (qs : List Place) → are_shards_first qs ≡ true → are_shards_first (ps ++ qs) ≡ true
+
+-- and stores by stores, or by the desk
+abbrev pub StartsStores : List Place → Type 0
+StartsStores ps = (qs : List Place) → are_stores_first qs ≡ true → are_shards_first (ps ++ qs) ≡ true
+
+pub shard_starts : (ps : List Place) (s : ShardItem) → StartsShards ps → StartsShards (ps ++ kind.Shard s ∷ [])
+shard_starts ps s h qs first = ap are_shards_first (append_twice ps (kind.Shard s) qs) ∙ h (kind.Shard s ∷ qs) first
+
+pub store_starts : (ps : List Place) (t : StoreItem) → StartsStores ps → StartsStores (ps ++ kind.Store t ∷ [])
+store_starts ps t h qs first = ap are_shards_first (append_twice ps (kind.Store t) qs) ∙ h (kind.Store t ∷ qs) first
+
+stores_too : (qs : List Place) → are_stores_first qs ≡ true → are_shards_first qs ≡ true
+stores_too [] h = cc
+stores_too (kind.Shard s ∷ qs) h = cc
+stores_too (kind.Store t ∷ qs) h = h
+stores_too (kind.Desk d ∷ qs) h = h
+stores_too (kind.Roster r ∷ qs) h = h
+
+pub stores_start : (ps : List Place) → StartsShards ps → StartsStores ps
+stores_start ps h qs first = h qs (stores_too qs first)
+
+-- ---- with the desk and the roster these are all
+module _ (n m : ℕ) (ps : List Place) (d : Desk) (r : Roster) (h : IsOpening n m ps) (some : 1 ≤ n) (few_shards : n ≤ 64) (few_stores : m ≤ 64) (starts : StartsStores ps)
+    (last : desks.last_of d ≡ 0) (log : desks.log_of d ≡ []) (own_last : rosters.last_of r ≡ 0) (own_log : rosters.log_of r ≡ []) (clients : rosters.contents_of r ≡ []) where
+  abbrev pub all : List Place
+  all = (ps ++ kind.Desk d ∷ []) ++ kind.Roster r ∷ []
+
+  joined : all ≡ ps ++ kind.Desk d ∷ kind.Roster r ∷ []
+  joined = append_twice ps (kind.Desk d) (kind.Roster r ∷ [])
+
+  shards_same : shard_items all ≡ shard_items ps
+  shards_same = ap shard_items joined ∙ (items-append ps (kind.Desk d ∷ kind.Roster r ∷ [])).0 ∙ append_empty (shard_items ps)
+
+  stores_same : store_items all ≡ store_items ps
+  stores_same = ap store_items joined ∙ (items-append ps (kind.Desk d ∷ kind.Roster r ∷ [])).1 ∙ append_empty (store_items ps)
+
+  quiet : AreQuiet all
+  quiet = quiet_more (ps ++ kind.Desk d ∷ []) (kind.Roster r) (quiet_more ps (kind.Desk d) h.quiet last log) own_last own_log
+
+  few_views : length (map shard_view (shard_items ps)) ≤ 64
+  few_views = let same = length-map shard_view (shard_items ps) in omega (arith, same, h.shards_are, few_shards)
+
+  pub opens_held : held_in all ≡ opening_held
+  opens_held = λ j. record { shard = shard j; store = store j; roster = (ap roster_in joined ∙ h.clients (kind.Desk d ∷ kind.Roster r ∷ []) ∙ clients) j; lasts = λ p. quiet_lasts all p quiet j; logs = λ p. quiet_logs all p quiet j }
+    where
+      shard : (held_in all).shard ≡ opening_shard
+      shard = ap (λ ss. all_shards (contents_in (map shard_view ss))) shards_same ∙ shards_open (map shard_view (shard_items ps)) (let same = length-map shard_view (shard_items ps) in omega (arith, same, h.shards_are, some)) h.fresh_shards
+
+      store : (held_in all).store ≡ empty
+      store = ap (λ ts. all_stores (contents_in (map store_view ts))) stores_same ∙ stores_open (map store_view (store_items ps)) h.fresh_stores
+
+  pub opens_counts : counts_in all ≡ record { shards = n; stores = m }
+  opens_counts = λ j. record { shards = (ap length shards_same ∙ h.shards_are) j; stores = (ap length stores_same ∙ h.stores_are) j }
+
+  pub opens_service : AreService all
+  opens_service = record {
+    in_order = ap are_shards_first joined ∙ starts (kind.Desk d ∷ kind.Roster r ∷ []) refl;
+    some = let same = ap length shards_same in omega (arith, same, h.shards_are, some);
+    shards = subst (λ ss. AreShards (map shard_view ss)) (sym shards_same) (shards_good (map shard_view (shard_items ps)) few_views h.fresh_shards);
+    stores = subst (λ ts. AreStores (map store_view ts)) (sym stores_same) (stores_good (map store_view (store_items ps)) (let same = length-map store_view (store_items ps) in omega (arith, same, h.stores_are, few_stores)) h.fresh_stores);
+  }

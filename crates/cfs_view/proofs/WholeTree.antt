@@ -1,11 +1,10 @@
 -- The maps that the records show, shard by shard and store by store, are the tree's.
-use Rattle.std.proofs.Common.{◌≡◌, ◌≢◌, ℕ, suc, zero, ◌+◌, ◌<◌, ◌≤◌, List, [], ◌∷◌, map, length, get_or, Bool, true, false, cond, refl, sym, ◌∙◌, ap, subst, arith}
+use Rattle.std.proofs.Common.{◌≡◌, ◌≢◌, ℕ, suc, zero, ◌+◌, ◌<◌, ◌≤◌, List, [], ◌∷◌, map, length, get_or, Bool, true, false, cond, refl, sym, ◌∙◌, ap, arith}
 use Rattle.std.specs.Prelude.{◌||◌, ◌==◌, if◌then◌else◌, nat_lt, Option, Some, None, is_none}
 use Rattle.std.proofs.lemmas.Bool.Decides.{nat_tests}
 use Rattle.std.specs.Option.{option_map}
 use Rattle.std.specs.Ordering.{nat_cmp}
 use Rattle.std.specs.Cmp.{nat_cmp_total}
-use Rattle.std.specs.Cmp.Lexicographic.{nat_list_cmp_total}
 use Rattle.std.specs.FinMap.{get, empty, entries, entries_sorted, get-entries, get-empty, same_map, nat_cmp-IsAntisymmetric}
 use Rattle.cfs_ids.specs.declared.ids.Node.{Node}
 use Rattle.cfs_ids.specs.declared.ids.Node.TheVariants.{Dir, File}
@@ -13,13 +12,13 @@ use Rattle.cfs_ids.specs.Maps.{Numbers}
 use Rattle.cfs_ids.specs.Namespace.{Namespace, Directory, FileFacts}
 use Rattle.cfs_steps.specs.declared.contents.DirRec.{DirRec}
 use Rattle.cfs_steps.specs.declared.contents.FileRec.{FileRec}
-use Rattle.cfs_rules.specs.Places.{Shard, Store, names_of}
-use Rattle.cfs_rules.specs.Trees.{is_named, is_placed, is_shown, is_settled, is_counted, directory_of, facts_of, tree}
+use Rattle.cfs_rules.specs.Places.{Shard, Store}
+use Rattle.cfs_rules.specs.Trees.{is_named, is_shown, is_settled, directory_of, facts_of, tree}
 use Rattle.cfs_rules.specs.Homes.{home_of_number, AreOwnShards, AreOwnStores, all_shards, all_stores}
 use Rattle.cfs_rules.proofs.TreeLookups.{get-tree_dirs, get-tree_files}
 use Rattle.cfs_rules.proofs.Homes.{get_in, get-gathered}
 use Rattle.cfs_rules.proofs.Gathering.{names_alike}
-use Rattle.cfs_rules.proofs.Whole.{own_recs, own_files, shard_agrees, store_agrees}
+use Rattle.cfs_rules.proofs.Whole.{own_recs, own_files, shard_agrees}
 use Rattle.cfs_view.specs.Collected.{with_each}
 use Rattle.cfs_view.specs.Shown.{names_in, shown_dir, shown_file, with_shards, with_stores}
 use Rattle.cfs_view.proofs.Collected.{given, get-with_each}

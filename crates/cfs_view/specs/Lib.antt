@@ -1,7 +1,9 @@
+pub mod Checks
 pub mod Collected
 pub mod Held
+pub mod Lendings
+pub mod PlaceLists
 pub mod PlaceViews
 pub mod Shown
-pub mod Steps
 pub mod Tallies
 pub mod Views

@@ -1,88 +1,210 @@
 //! The places of a service.
-ghost use Rattle.std.specs.Prelude.{◌≡◌, ◌↔◌, ◌≤◌, true, IfOk, OnOk, OnErr, IsTrue, Err, length, map};
+ghost use Rattle.std.specs.Prelude.{◌≡◌, ◌↔◌, ◌≤◌, ◌++◌, ◌∷◌, [], true, IfOk, OnOk, OnErr, IfErr, IsTrue, Err, length, is_some, slice_get};
+ghost use Rattle.std.specs.Option.{option_copied, option_copied_mut};
+ghost use Rattle.std.specs.Borrow.{sem};
 ghost use Rattle.cfs_steps.specs.Asks.{place_of};
-ghost use Rattle.cfs_desk.specs.Rosters as rosters;
-ghost use Rattle.std.proofs.Props.{props};
-ghost use Rattle.cfs_rules.proofs.OnlyOne.{AreNumbered-prop, AreOwnShards-prop, AreOwnStores-prop};
 ghost use Rattle.cfs_view.specs.Held.{opening_held, serve as served, full, has_place};
-ghost use Rattle.cfs_rules.specs.Several.{AreShards, AreStores};
-ghost use Rattle.cfs_view.specs.PlaceViews.{shard_view, store_view};
+ghost use Rattle.cfs_view.specs.Lendings.{LendsAt, LendsPlace};
+ghost use Rattle.cfs_view.specs.PlaceLists.{AreService, index_in, place_in, shard_items};
+ghost use Rattle.cfs_view.specs.Views.{counts_of, counts_in, held, held_in, items_of, places_of, IsService};
 
-use crate::several::{opening_shards, opening_stores, serve_in_shard, serve_in_store};
-use cfs_desk::Roster;
-use cfs_ids::{Actor, NoMemory, Ts};
-use cfs_shard::Shard;
+use crate::opening::opening_places;
+use crate::place::Place;
+use cfs_ids::{Actor, NoMemory, PlaceNo, Ts};
 use cfs_steps::{Ask, Entry, ServeFault};
-use cfs_store::Store;
 use std::alloc::Global;
 
-/// The shards, the stores and the roster. Shard i is place i, store j is place 64 + j, and the roster is place 129.
+/// A list of places. That of all places of a service has them by rising place number.
+#[derive(Drop)]
+pub struct PlaceList {
+    places: Vec<Place>,
+}
+
+impl PlaceList {
+    /// No places. It takes no memory.
+    pub fn new(alloc: Global) -> PlaceList
+        ensures { items_of result ≡ [] }
+    {
+        PlaceList {
+            places: Vec::new(alloc),
+        }
+    }
+
+    /// How many places there are.
+    pub fn len(&self) -> usize
+        ensures { result ≡ length (items_of self.now) }
+    {
+        self.places.len()
+    }
+
+    /// The i-th place, from 0. None comes exactly at and past the length.
+    pub fn get(&self, i: usize) -> Option<&Place>
+        ensures { option_copied result ≡ slice_get (items_of self.now) i }
+    {
+        self.places.get(i)
+    }
+
+    /// Adds a place at the end. The Err is want of memory, and hands the place back.
+    pub fn push(&mut self, place: Place) -> Result<(), Place>
+        ensures ok { OnOk result (items_of self.new ≡ items_of self.old ++ place ∷ []) }
+        ensures err { OnErr result (items_of self.new ≡ items_of self.old) }
+        ensures back { IfErr result (λ back. back ≡ place) }
+    {
+        match self.places.push(place) {
+            Ok(()) => Ok(()),
+            Err(refused) => Err(refused.value),
+        }
+    }
+}
+
+// How many of the places are shards.
+fn count_shards(places: &[Place]) -> usize
+    requires { length places.now ≤ 130 }
+    ensures { result ≡ length (shard_items places.now) }
+{
+    let mut count = 0;
+    for place in places {
+        if let Place::Shard(_) = place {
+            count += 1;
+        }
+    }
+    count
+}
+
+/// All places of a service, by their numbers: the shards, the stores, the desk and the roster.
 #[derive(Drop)]
 pub struct Places {
-    shards: Vec<Shard>,
-    stores: Vec<Store>,
-    roster: Roster,
-    ghost sharded: { AreShards (map shard_view shards.items) } by { Prim.hlevel (props, AreNumbered-prop, AreOwnShards-prop) },
-    ghost stored: { AreStores (map store_view stores.items) } by { Prim.hlevel (props, AreNumbered-prop, AreOwnStores-prop) },
+    places: Vec<Place>,
+    shards: usize,
 }
 
 impl Places {
-    ghost use Rattle.cfs_view.specs.Views.{held, counts_of};
-
-    /// The places with which a service of so many shards and stores opens, 1 to 64 of each.
+    /// The places with which a service of so many shards and stores opens, 1 to 64 shards and at most 64 stores.
     pub fn new(alloc: Global, shards: u32, stores: u32) -> Result<Places, NoMemory>
         requires some_shards { 1 ≤ shards }
         requires few_shards { shards ≤ 64 }
         requires few_stores { stores ≤ 64 }
         ensures held { IfOk result (λ places. held places ≡ opening_held) }
         ensures counts { IfOk result (λ places. counts_of places ≡ record { shards = shards; stores = stores }) }
+        ensures service { IfOk result (λ places. IsService places) }
     {
         Ok(Places {
-            shards: opening_shards(alloc, shards)?,
-            stores: opening_stores(alloc, stores)?,
-            roster: Roster::new(alloc)?,
+            places: opening_places(alloc, shards, stores)?,
+            shards: shards as usize,
         })
     }
 
-    /// The shards, by their numbers.
-    pub fn shards(&self) -> &[Shard]
-        ensures { result.now ≡ self.now.shards.items }
+    /// The places as a list, by rising place number. It takes no memory.
+    pub fn into_list(self) -> PlaceList
+        requires { IsService self }
+        ensures places { items_of result ≡ places_of self }
+        ensures service { AreService (items_of result) }
     {
-        self.shards.as_slice()
+        PlaceList {
+            places: self.places,
+        }
     }
 
-    /// The stores, by their numbers.
-    pub fn stores(&self) -> &[Store]
-        ensures { result.now ≡ self.now.stores.items }
+    /// The places of a list, which is to have all places of one service by rising place number, as `into_list` gives
+    /// them. It takes no memory.
+    pub fn from_list(list: PlaceList) -> Places
+        requires { AreService (items_of list) }
+        ensures places { places_of result ≡ items_of list }
+        ensures service { IsService result }
     {
-        self.stores.as_slice()
+        let shards = count_shards(list.places.as_slice());
+        Places {
+            places: list.places,
+            shards,
+        }
     }
 
-    /// The roster.
-    pub fn roster(&self) -> &Roster
-        ensures { result.now ≡ self.now.roster }
+    /// The places, by their numbers.
+    pub fn as_slice(&self) -> &[Place]
+        ensures { result.now ≡ places_of self.now }
     {
-        &self.roster
+        self.places.as_slice()
+    }
+
+    // The index of a place in the list, or the list's length where the service has no such place.
+    fn index_of(&self, place: PlaceNo) -> usize
+        requires { IsService self.now }
+        ensures { result ≡ index_in (places_of self.now) place.0 }
+    {
+        let number = place.0 as usize;
+        let count = self.places.len();
+        let stores = count - 2 - self.shards;
+        if number < self.shards {
+            number
+        } else if number < 64 {
+            count
+        } else if number < 64 + stores {
+            self.shards + (number - 64)
+        } else if number < 128 {
+            count
+        } else if number < 130 {
+            self.shards + stores + (number - 128)
+        } else {
+            count
+        }
+    }
+
+    // The place at an index of the list. None comes exactly at and past the length.
+    fn at(&self, index: usize) -> Option<&Place>
+        ensures { option_copied result ≡ slice_get (places_of self.now) index }
+    {
+        self.places.get(index)
+    }
+
+    /// The place with this number. None comes exactly where the service has no such place.
+    pub fn get(&self, place: PlaceNo) -> Option<&Place>
+        requires { IsService self.now }
+        ensures place { option_copied result ≡ place_in (places_of self.now) place.0 }
+        ensures there { is_some result ≡ has_place (counts_of self.now) place.0 }
+    {
+        let index = self.index_of(place);
+        self.at(index)
+    }
+
+    // The place at an index of the list, to write to. None comes exactly at and past the length.
+    fn at_mut(&mut self, index: usize) -> Option<&mut Place>
+        ensures* lends { sem 𝓛 (LendsAt self.entry index result) }
+        ensures place { option_copied_mut result ≡ slice_get (places_of self.old) index }
+    {
+        self.places.get_mut(index)
+    }
+
+    /// The place with this number, to write to. None comes exactly where the service has no such place. What is written
+    /// must be a place of the same number.
+    pub fn get_mut(&mut self, place: PlaceNo) -> Option<&mut Place>
+        requires { IsService self.old }
+        ensures* lends { sem 𝓛 (LendsPlace self.entry place.0 result) }
+        ensures place { option_copied_mut result ≡ place_in (places_of self.old) place.0 }
+        ensures there { is_some result ≡ has_place (counts_of self.old) place.0 }
+    {
+        let index = self.index_of(place);
+        self.at_mut(index)
     }
 
     /// Serves an ask of the actor, whose last number is `last`, in the ask's place, which is to be one of the service.
     /// LogFull comes exactly where that place's log has 1,048,576 entries, or a last number is 2^40 or more. On Err the
     /// places are as before.
     pub fn serve(&mut self, actor: Actor, last: Ts, ask: &Ask) -> Result<Entry, ServeFault>
-        requires { IsTrue (has_place (counts_of self.old) (place_of ask.now).0) }
+        requires service { IsService self.old }
+        requires there { IsTrue (has_place (counts_of self.old) (place_of ask.now).0) }
         ensures entry { IfOk result (λ entry. entry ≡ (served (held self.old) actor last ask.now).entry) }
         ensures held { OnOk result (held self.new ≡ (served (held self.old) actor last ask.now).held) }
         ensures full { (result ≡ Err ServeFault.LogFull) ↔ (full (held self.old) last ask.now ≡ true) }
         ensures err { OnErr result (held self.new ≡ held self.old) }
         ensures counts { counts_of self.new ≡ counts_of self.old }
+        ensures service { IsService self.new }
     {
-        let place = ask.place().0;
-        if place < 64 {
-            serve_in_shard(&mut self.shards, place as usize, actor, last, ask)
-        } else if place < 128 {
-            serve_in_store(&mut self.stores, (place - 64) as usize, actor, last, ask)
-        } else {
-            self.roster.serve(actor, last, ask)
+        let index = self.index_of(ask.place());
+        match &mut self.places[index] {
+            Place::Shard(shard) => shard.serve(actor, last, ask),
+            Place::Store(store) => store.serve(actor, last, ask),
+            Place::Desk(desk) => desk.serve(actor, last, ask),
+            Place::Roster(roster) => roster.serve(actor, last, ask),
         }
     }
 }

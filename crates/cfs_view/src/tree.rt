@@ -10,9 +10,11 @@ ghost use Rattle.cfs_store.specs.Stores as stores;
 ghost use Rattle.cfs_view.specs.Collected.{with_each, with_value};
 ghost use Rattle.cfs_rules.specs.Several.{contents_in};
 ghost use Rattle.cfs_view.specs.PlaceViews.{shard_view, store_view};
-ghost use Rattle.cfs_view.specs.Views.{held};
+ghost use Rattle.cfs_view.specs.PlaceLists.{shard_items, store_items};
+ghost use Rattle.cfs_view.specs.Views.{held, IsService};
 ghost use Rattle.cfs_view.specs.Shown.{names_in, shown_dir, shown_file, with_shards, with_stores};
 
+use crate::place::Place;
 use crate::places::Places;
 use cfs_ids::{Client, DirId, FileId, NoMemory, Node};
 use cfs_maps::NodeSet;
@@ -22,12 +24,14 @@ use cfs_tree::{Directory, Namespace};
 use std::alloc::Global;
 
 // The nodes that the rows of all shards name.
-fn named_nodes(alloc: Global, shards: &[Shard]) -> Result<NodeSet, NoMemory>
-    ensures { IfOk result (λ named. (x : _) → has_node named x ≡ names_in (contents_in (map shard_view shards.now)) x) }
+fn named_nodes(alloc: Global, places: &[Place]) -> Result<NodeSet, NoMemory>
+    ensures { IfOk result (λ named. (x : _) → has_node named x ≡ names_in (contents_in (map shard_view (shard_items places.now))) x) }
 {
     let mut named = NodeSet::new(alloc);
-    for shard in shards {
-        shard.add_named(&mut named)?;
+    for place in places {
+        if let Place::Shard(shard) = place {
+            shard.add_named(&mut named)?;
+        }
     }
     Ok(named)
 }
@@ -90,12 +94,14 @@ fn add_all_dirs(
     alloc: Global,
     namespace: &mut Namespace,
     named: &NodeSet,
-    shards: &[Shard],
+    places: &[Place],
 ) -> Result<(), NoMemory>
-    ensures { OnOk result (namespace.new ≡ record { dirs = with_shards (has_node named.now) namespace.old.dirs (contents_in (map shard_view shards.now)); files = namespace.old.files }) }
+    ensures { OnOk result (namespace.new ≡ record { dirs = with_shards (has_node named.now) namespace.old.dirs (contents_in (map shard_view (shard_items places.now))); files = namespace.old.files }) }
 {
-    for shard in shards {
-        add_dirs(alloc, namespace, named, shard)?;
+    for place in places {
+        if let Place::Shard(shard) = place {
+            add_dirs(alloc, namespace, named, shard)?;
+        }
     }
     Ok(())
 }
@@ -137,12 +143,14 @@ fn add_files(namespace: &mut Namespace, named: &NodeSet, store: &Store) -> Resul
 fn add_all_files(
     namespace: &mut Namespace,
     named: &NodeSet,
-    stores: &[Store],
+    places: &[Place],
 ) -> Result<(), NoMemory>
-    ensures { OnOk result (namespace.new ≡ record { dirs = namespace.old.dirs; files = with_stores (has_node named.now) namespace.old.files (contents_in (map store_view stores.now)) }) }
+    ensures { OnOk result (namespace.new ≡ record { dirs = namespace.old.dirs; files = with_stores (has_node named.now) namespace.old.files (contents_in (map store_view (store_items places.now))) }) }
 {
-    for store in stores {
-        add_files(namespace, named, store)?;
+    for place in places {
+        if let Place::Store(store) = place {
+            add_files(namespace, named, store)?;
+        }
     }
     Ok(())
 }
@@ -150,11 +158,13 @@ fn add_all_files(
 /// The tree that the places hold: the root and the directories that a row names, and the files that have a record and
 /// no owner, or that a row names. The Err is want of memory.
 pub fn tree_of(alloc: Global, places: &Places) -> Result<Namespace, NoMemory>
+    requires { IsService places.now }
     ensures { IfOk result (λ namespace. namespace ≡ tree (held places.now).shard (held places.now).store) }
 {
-    let named = named_nodes(alloc, places.shards())?;
+    let places = places.as_slice();
+    let named = named_nodes(alloc, places)?;
     let mut namespace = Namespace::new(alloc);
-    add_all_dirs(alloc, &mut namespace, &named, places.shards())?;
-    add_all_files(&mut namespace, &named, places.stores())?;
+    add_all_dirs(alloc, &mut namespace, &named, places)?;
+    add_all_files(&mut namespace, &named, places)?;
     Ok(namespace)
 }

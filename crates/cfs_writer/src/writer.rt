@@ -7,7 +7,7 @@ ghost use Rattle.cfs_writer.specs.Writers.{phase_of, is_writing, writes};
 
 use crate::state::{Creation, WriterState};
 use cfs_ids::{At, Call, Client, Errno, NoMemory, Node, PlaceNo, Reply, Stamp, Ts};
-use cfs_steps::{Answer, Ask, CallDone, Entry, Machine};
+use cfs_steps::{Answer, Ask, CallDone, Entry, Machine, home_of, maker, shard_of};
 
 /// A create or mkdir on its way. `put_index` is the index of the store of its file, or of the shard of its directory.
 #[derive(Debug, Drop)]
@@ -46,7 +46,10 @@ impl Writer {
             WriterState::Inserting { creation, .. }
             | WriterState::Settling { creation, .. }
             | WriterState::TakingBack { creation, .. } => {
-                Ok(Some((creation.call()?, creation.first)))
+                Ok(Some((
+                    maker(creation.dir, &creation.name, creation.node)?,
+                    creation.first,
+                )))
             }
         }
     }
@@ -114,16 +117,6 @@ fn put_place(put_index: u32, call: &Call) -> PlaceNo
     }
 }
 
-// The place of a node's record: the shard of a directory, the store of a file.
-fn place_of_node(node: Node) -> PlaceNo
-    ensures { result ≡ home_of node }
-{
-    match node {
-        Node::Dir(dir) => PlaceNo((dir.0 % 64) as u32),
-        Node::File(file) => PlaceNo(64 + (file.0 % 64) as u32),
-    }
-}
-
 // The place of the ask of a state.
 fn place_in(put_index: u32, state: &WriterState) -> PlaceNo
     requires going { IsTrue (is_going (phase_of state.now)) }
@@ -134,9 +127,9 @@ fn place_in(put_index: u32, state: &WriterState) -> PlaceNo
     match state {
         WriterState::Asking(call) => put_place(put_index, call),
         WriterState::Finished(_) => unreachable!(),
-        WriterState::Inserting { creation, .. } => PlaceNo((creation.dir.0 % 64) as u32),
+        WriterState::Inserting { creation, .. } => shard_of(creation.dir),
         WriterState::Settling { creation, .. } | WriterState::TakingBack { creation, .. } => {
-            place_of_node(creation.node)
+            home_of(creation.node)
         }
     }
 }
@@ -167,18 +160,6 @@ fn after_put(call: &Call, step: Stamp, answer: &Answer) -> Result<WriterState, N
 }
 
 impl Creation {
-    // The call: a create makes a file, and a mkdir a directory.
-    fn call(&self) -> Result<Call, NoMemory>
-        ensures { IfOk result (λ call. call ≡ maker self.now.dir self.now.name self.now.node) }
-    {
-        let dir = self.dir;
-        let name = self.name.copy()?;
-        match self.node {
-            Node::File(_) => Ok(Call::Create { dir, name }),
-            Node::Dir(_) => Ok(Call::Mkdir { dir, name }),
-        }
-    }
-
     // A copy.
     fn copy(&self) -> Result<Creation, NoMemory>
         ensures { IfOk result (λ copy. copy ≡ self.now) }
@@ -196,7 +177,7 @@ impl Creation {
         ensures { IfOk result (λ done. Finished done ≡ replied (maker self.now.dir self.now.name self.now.node) self.now.first at last (Reply.Refused errno)) }
     {
         Ok(CallDone {
-            call: self.call()?,
+            call: maker(self.dir, &self.name, self.node)?,
             first: self.first,
             at: At::Before(at),
             last,
@@ -211,7 +192,7 @@ impl Creation {
         ensures { IfOk result (λ done. Finished done ≡ moved_phase self.now.dir self.now.name self.now.node ts self.now.first at last) }
     {
         Ok(CallDone {
-            call: self.call()?,
+            call: maker(self.dir, &self.name, self.node)?,
             first: self.first,
             at: At::Step(at),
             last,

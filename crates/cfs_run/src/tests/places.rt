@@ -159,7 +159,7 @@ fn puts_text(alloc: Global) -> Result<String, Fail> {
 }
 
 #[test]
-fn puts_go_round_the_shards_and_the_stores(rt: HostRuntime) -> Result<(), Fail> {
+fn puts_are_counted_over_files_and_directories(rt: HostRuntime) -> Result<(), Fail> {
     let script = puts_script(rt.alloc())?;
     let text = puts_text(rt.alloc())?;
     let lines = [

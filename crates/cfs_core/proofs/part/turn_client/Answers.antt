@@ -1,4 +1,4 @@
-use Rattle.std.proofs.Common.{rules, ◌≡◌, ◌++◌, ◌∷◌, [], true, refl, ap, ◌∙◌, sym, subst}
+use Rattle.std.proofs.Common.{rules, ◌≡◌, ◌++◌, ◌∷◌, [], refl, ap, ◌∙◌}
 use Rattle.std.proofs.lemmas.List.Folds.{list_all-append}
 use Rattle.cfs_ids.specs.declared.ids.PlaceNo.{PlaceNo}
 use Rattle.cfs_steps.specs.declared.entry.Entry.{Entry}
@@ -18,7 +18,7 @@ hear-requires-clause-listed c =
     let counts = c.settle.ensures.counts ∙ work-counts (counts_of c.args.places.now) c.args.state.now c.requires.alike in
     let next = c.in_ok-ask.ensures.ask ∙ ap (λ (k : Counts). next_ask k (client_of c.settle.new.self) (progress_of c.settle.new.self)) counts in
     rw c.in-Ok.ensures.entry
-    (listed (counts_of c.args.places.now) c.requires.sized (held c.args.places.now) (ClientActor c.client.result) (client_of c.settle.new.self) c.last.result (progress_of c.settle.new.self) c.in_ok-ask.ask next c.ask.ensures.going)
+    (listed (counts_of c.args.places.now) c.requires.sized (held c.args.places.now) c.requires.free (ClientActor c.client.result) (client_of c.settle.new.self) c.last.result (progress_of c.settle.new.self) c.in_ok-ask.ask next c.ask.ensures.going)
 
 pub returns-in-Ok-clause-there : goal.returns-in-Ok-clause-there
 returns-in-Ok-clause-there c =
@@ -33,7 +33,7 @@ returns-in-Ok-clause-there c =
     ∙ ap (λ (e : Entry). hears progress c.place-place.result e) c.in-Ok.ensures.entry
     ∙ ap (λ (place : PlaceNo). hears progress place (serve h (ClientActor c.client.result) c.last.result c.in_ok-ask.ask).entry) c.place-place.ensures
     )
-    ∙ hears_there counts c.requires.sized h (ClientActor c.client.result) (client_of c.settle.new.self) c.last.result progress c.in_ok-ask.ask next there
+    ∙ hears_there counts c.requires.sized h c.requires.free (ClientActor c.client.result) (client_of c.settle.new.self) c.last.result progress c.in_ok-ask.ask next there
 
 pub returns-in-Ok-clause-asked : goal.returns-in-Ok-clause-asked
 returns-in-Ok-clause-asked c = λ there.

@@ -3,12 +3,14 @@ use Rattle.std.proofs.Common.{set, true, ◌≡◌, ◌≢◌, ℕ, ◌∙◌, s
 use Rattle.std.proofs.lemmas.List.{length-reverse}
 use Rattle.cfs_ids.specs.declared.ids.PlaceNo.{PlaceNo}
 use Rattle.cfs_ids.specs.declared.ids.Client.{Client}
-use Rattle.cfs_rules.specs.Worlds.{Counts, AreCounts, Progress, next_ask}
+use Rattle.cfs_rules.specs.Facts.{Unlocked}
+use Rattle.cfs_rules.proofs.Locks.{turn-unlocked}
+use Rattle.cfs_rules.specs.Worlds.{World, Counts, AreCounts, Progress, next_ask}
 use Rattle.cfs_actor.specs.declared.client_state.ClientState.{ClientState}
 use Rattle.cfs_actor.specs.Clients.{client_of, progress_of}
 use Rattle.cfs_view.specs.Held.{Held}
 use Rattle.cfs_view.specs.Views.{held, counts_of}
-use Rattle.cfs_core.specs.Clients.{progress_in, works_with}
+use Rattle.cfs_core.specs.Clients.{progress_in, works_with, world_in}
 use Rattle.cfs_core.specs.Reach.{progress_there, places_there}
 use Rattle.cfs_core.specs.Counted.{IsCounted}
 use Rattle.cfs_ids.specs.declared.memory.NoMemory.{NoMemory}
@@ -120,6 +122,7 @@ returns-clause-sound c =
     let was = was-progress all c.in-Some.at old c.args.client at is in
     let now = subst (λ (p : Progress). progress_there counts p ≡ true) was (c.requires.sound.there c.args.client.0) in
     record {
+      service = c.turn_client.ensures.service;
       counted = elim (decided c.turn_client.result) [
         | inl e ↦ stepped-counted counts c.requires.sound.sized all c.in-Some.at old new c.args.client (held c.args.places.now) (held c.turn_client.new.places) (reverse c.args.order.now.items) (reverse c.turn_client.new.order.items)
             at is c.turn_client.ensures.client (c.turn_client.ensures.stepped e) now (c.turn_client.ensures.room e) c.requires.sound.counted
@@ -133,4 +136,8 @@ returns-clause-sound c =
       there = λ n. subst (λ (k : Counts). progress_there k (progress_in (set all c.in-Some.at new) n) ≡ true) same
           (there-set counts all c.in-Some.at old new c.args.client at is c.turn_client.ensures.client c.requires.sound.there c.turn_client.ensures.there n);
       asked = subst (λ (k : Counts). places_there k c.turn_client.new.order.items ≡ true) same (c.turn_client.ensures.asked c.requires.sound.asked);
+      free = elim (decided c.turn_client.result) [
+        | inl e ↦ subst (λ (w : World). Unlocked w.shard) (sym (returns-clause-stepped c e)) (turn-unlocked counts (world_in c.args.places.now all c.args.order.now.items) c.args.client.0 c.requires.sound.free)
+        | inr n ↦ subst (λ (h : Held). Unlocked h.shard) (sym (c.turn_client.ensures.same_held n)) c.requires.sound.free
+      ];
     }

@@ -3,12 +3,11 @@ use Rattle.std.specs.Prelude.{Some}
 use Rattle.std.specs.Ordering.{nat_cmp}
 use Rattle.std.specs.Cmp.Lexicographic.{slice_cmp}
 use Rattle.std.specs.FinMap.{get}
-use Rattle.cfs_steps.specs.declared.contents.Row.{Row}
 use Rattle.cfs_maps.specs.Walks.{entries_after, first_of}
 use Rattle.cfs_ids.proofs.Entries.{entries-empty}
 use Rattle.cfs_table.proofs.walk.next_name.Goals as goal
 
 pub returns-in-None : goal.returns-in-None
-returns-in-None c =
-    let none : get c.args.rows.now c.args.dir ≡ None = sym c.in-None.ensures in
-    rw none (ap (λ rs. first_of (entries_after (slice_cmp nat_cmp) (Some c.args.after.now) rs)) (sym (entries-empty {X = Row} (slice_cmp nat_cmp))))
+returns-in-None g c =
+    let none : get c.args.maps.now c.args.dir ≡ None = sym c.in-None.ensures in
+    rw none (ap (λ rs. first_of (entries_after (slice_cmp nat_cmp) (Some c.args.after.now) rs)) (sym (entries-empty {X = g.row.V.Denot} (slice_cmp nat_cmp))))

@@ -1,4 +1,4 @@
-use Rattle.std.proofs.Common.{ℕ, reverse, ap, ◌∙◌, subst, sym, refl}
+use Rattle.std.proofs.Common.{ℕ, reverse, ap, ◌∙◌, refl}
 use Rattle.cfs_rules.specs.Worlds.{Progress}
 use Rattle.cfs_view.specs.Views.{held}
 use Rattle.cfs_core.specs.Weave.{world_from}
@@ -32,6 +32,7 @@ returns-clause-run c = record {
   entries = rw c.as_slice.ensures.value at c.in-Ok-entries_of.ensures;
   shard = refl;
   store = refl;
+  service = c.args.self.sound.service;
   roster = refl;
   calls = λ rising. c.in-Ok.ensures.calls ∙ calls-by-number c.args.self.clients.items rising;
 }

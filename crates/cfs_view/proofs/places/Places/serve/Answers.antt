@@ -1,30 +1,203 @@
-use Rattle.std.proofs.Common.{◌≡◌, ◌∙◌, sym, ap, reverse, length, ◌≤◌, refl, map, arith}
-use Rattle.std.proofs.lemmas.Bool.Decides.{nat_tests}
-use Rattle.cfs_desk.specs.Rosters as rosters
-use Rattle.cfs_view.specs.PlaceViews.{shard_view, store_view}
-use Rattle.cfs_view.specs.Views.{shards_of, stores_of, counts_of}
-use Rattle.cfs_view.proofs.HeldSteps.{shard_held, store_held, at_roster, roster_held}
-use Rattle.cfs_view.proofs.OneOfSeveral.{length-map}
+use Rattle.std.proofs.Common.{◌≡◌, ◌∙◌, sym, ap, get_or, arith}
+use Rattle.cfs_ids.specs.declared.ids.PlaceNo.{PlaceNo}
+use Rattle.cfs_steps.specs.Asks.{place_of}
+use Rattle.cfs_view.specs.declared.place.Place.TheVariants as kind
+use Rattle.cfs_view.specs.PlaceLists.{index_in}
+use Rattle.cfs_view.specs.Views.{places_of}
+use Rattle.cfs_view.proofs.Changing.{number_here, full_here}
+use Rattle.cfs_view.proofs.Serving.{stands_there, shard_counts, shard_entered, shard_held, shard_kept, shard_service, store_counts, store_entered, store_held, store_service, desk_counts, desk_entered, desk_held, desk_service, roster_counts, roster_entered, roster_held, roster_service}
 use Rattle.cfs_view.proofs.places.Places.serve.Goals as goal
 
-pub returns-then-place-lt64-clause-held : goal.returns-then-place-lt64-clause-held
-returns-then-place-lt64-clause-held c =
-    let p = c.args.self.now in
-    shard_held (shards_of p) (stores_of p) (rosters.contents_of p.roster) (rosters.last_of p.roster) (reverse (rosters.log_of p.roster)) c.args.actor c.args.last c.args.ask.now (map shard_view c.serve_in_shard.new.shards.items) c.serve_in_shard.result
-    (grind (arith, nat_tests, c.if-place-lt64.true, c.place-place.ensures)) (rw c.place-place.ensures at c.serve_in_shard.ensures.step)
+pub index_mut-requires : goal.index_mut-requires
+index_mut-requires c =
+    let lt = stands_there (places_of c.args.self.now) c.requires.service.all (place_of c.args.ask.now).0 c.requires.there in
+    let spot : c.index_of-index.result ≡ index_in (places_of c.args.self.now) (place_of c.args.ask.now).0 = c.index_of-index.ensures ∙ ap (λ (place : PlaceNo). index_in (places_of c.args.self.now) place.0) c.place.ensures in
+    omega (arith, lt, spot)
 
-pub returns-then-place-lt128-clause-held : goal.returns-then-place-lt128-clause-held
-returns-then-place-lt128-clause-held c =
-    let p = c.args.self.now in
-    store_held (shards_of p) (stores_of p) (rosters.contents_of p.roster) (rosters.last_of p.roster) (reverse (rosters.log_of p.roster)) c.args.actor c.args.last c.args.ask.now (map store_view c.serve_in_store.new.stores.items) c.serve_in_store.result
-    (grind (arith, nat_tests, c.if-place-lt64.false, c.place-place.ensures)) (grind (arith, nat_tests, c.if-place-lt128.true, c.place-place.ensures)) (rw c.place-place.ensures at c.serve_in_store.ensures.step)
+pub serve-requires : goal.serve-requires
+serve-requires c =
+    let ps = places_of c.args.self.now in
+    let spot : c.index_of-index.result ≡ index_in ps (place_of c.args.ask.now).0 = c.index_of-index.ensures ∙ ap (λ (place : PlaceNo). index_in ps place.0) c.place.ensures in
+    let lt = stands_there ps c.requires.service.all (place_of c.args.ask.now).0 c.requires.there in
+    let is : kind.Shard c.in-Shard.shard ≡ get_or ps (index_in ps (place_of c.args.ask.now).0) (kind.Shard c.in-Shard.shard) = rw spot at (rw c.in-Shard.is at c.index_mut.ensures.value) in
+    record { here = sym (number_here ps (place_of c.args.ask.now).0 (kind.Shard c.in-Shard.shard) lt is) }
 
-pub returns-else-place-lt128-clause-held : goal.returns-else-place-lt128-clause-held
-returns-else-place-lt128-clause-held c =
-    let p = c.args.self.now in
-    let few_shards : length p.shards.items ≤ 64 = let few = p.sharded.few in let same = length-map shard_view p.shards.items in omega arith in
-    let few_stores : length p.stores.items ≤ 64 = let few = p.stored.few in let same = length-map store_view p.stores.items in omega arith in
-    roster_held (shards_of p) (stores_of p) (rosters.contents_of p.roster) (rosters.last_of p.roster) (reverse (rosters.log_of p.roster)) c.args.actor c.args.last c.args.ask.now
-    (rosters.contents_of c.serve.new.self) (rosters.last_of c.serve.new.self) (rosters.log_of p.roster) (rosters.log_of c.serve.new.self) c.serve.result refl
-    (at_roster (shards_of p) (stores_of p) (rosters.contents_of p.roster) (rosters.last_of p.roster) (reverse (rosters.log_of p.roster)) c.args.actor c.args.last c.args.ask.now (counts_of p) few_shards few_stores c.requires (grind (arith, nat_tests, c.if-place-lt128.false, c.place-place.ensures)))
-    c.serve.ensures.entry c.serve.ensures.contents c.serve.ensures.log c.serve.ensures.last
+pub returns-in-Shard-clause-entry : goal.returns-in-Shard-clause-entry
+returns-in-Shard-clause-entry c =
+    let ps = places_of c.args.self.now in
+    let spot : c.index_of-index.result ≡ index_in ps (place_of c.args.ask.now).0 = c.index_of-index.ensures ∙ ap (λ (place : PlaceNo). index_in ps place.0) c.place.ensures in
+    let lt = stands_there ps c.requires.service.all (place_of c.args.ask.now).0 c.requires.there in
+    let is : kind.Shard c.in-Shard.shard ≡ get_or ps (index_in ps (place_of c.args.ask.now).0) (kind.Shard c.in-Shard.shard) = rw spot at (rw c.in-Shard.is at c.index_mut.ensures.value) in
+    shard_entered ps c.requires.service.all c.args.ask.now lt c.in-Shard.shard c.serve.new.self is c.serve.ensures.index c.args.actor c.args.last c.serve.result c.serve.ensures.entry
+
+pub returns-in-Shard-clause-held : goal.returns-in-Shard-clause-held
+returns-in-Shard-clause-held c =
+    let ps = places_of c.args.self.now in
+    let spot : c.index_of-index.result ≡ index_in ps (place_of c.args.ask.now).0 = c.index_of-index.ensures ∙ ap (λ (place : PlaceNo). index_in ps place.0) c.place.ensures in
+    let lt = stands_there ps c.requires.service.all (place_of c.args.ask.now).0 c.requires.there in
+    let is : kind.Shard c.in-Shard.shard ≡ get_or ps (index_in ps (place_of c.args.ask.now).0) (kind.Shard c.in-Shard.shard) = rw spot at (rw c.in-Shard.is at c.index_mut.ensures.value) in
+    rw spot (shard_held ps c.requires.service.all c.args.ask.now lt c.in-Shard.shard c.serve.new.self is c.serve.ensures.index c.args.actor c.args.last c.serve.result c.serve.ensures.entry c.serve.ensures.contents c.serve.ensures.log c.serve.ensures.last)
+
+pub returns-in-Shard-clause-full : goal.returns-in-Shard-clause-full
+returns-in-Shard-clause-full c =
+    let ps = places_of c.args.self.now in
+    let spot : c.index_of-index.result ≡ index_in ps (place_of c.args.ask.now).0 = c.index_of-index.ensures ∙ ap (λ (place : PlaceNo). index_in ps place.0) c.place.ensures in
+    let lt = stands_there ps c.requires.service.all (place_of c.args.ask.now).0 c.requires.there in
+    let is : kind.Shard c.in-Shard.shard ≡ get_or ps (index_in ps (place_of c.args.ask.now).0) (kind.Shard c.in-Shard.shard) = rw spot at (rw c.in-Shard.is at c.index_mut.ensures.value) in
+    let same = full_here ps (place_of c.args.ask.now).0 (kind.Shard c.in-Shard.shard) (kind.Shard c.in-Shard.shard) lt is c.args.last in
+    ((λ e. same ∙ c.serve.ensures.full.0 e), (λ e. c.serve.ensures.full.1 (sym same ∙ e)))
+
+pub returns-in-Shard-clause-err : goal.returns-in-Shard-clause-err
+returns-in-Shard-clause-err c =
+    let ps = places_of c.args.self.now in
+    let spot : c.index_of-index.result ≡ index_in ps (place_of c.args.ask.now).0 = c.index_of-index.ensures ∙ ap (λ (place : PlaceNo). index_in ps place.0) c.place.ensures in
+    let lt = stands_there ps c.requires.service.all (place_of c.args.ask.now).0 c.requires.there in
+    let is : kind.Shard c.in-Shard.shard ≡ get_or ps (index_in ps (place_of c.args.ask.now).0) (kind.Shard c.in-Shard.shard) = rw spot at (rw c.in-Shard.is at c.index_mut.ensures.value) in
+    rw spot (shard_kept ps c.requires.service.all c.args.ask.now lt c.in-Shard.shard c.serve.new.self is c.serve.ensures.index c.args.actor c.args.last c.serve.result c.serve.ensures.err)
+
+pub returns-in-Shard-clause-counts : goal.returns-in-Shard-clause-counts
+returns-in-Shard-clause-counts c =
+    let ps = places_of c.args.self.now in
+    let spot : c.index_of-index.result ≡ index_in ps (place_of c.args.ask.now).0 = c.index_of-index.ensures ∙ ap (λ (place : PlaceNo). index_in ps place.0) c.place.ensures in
+    let lt = stands_there ps c.requires.service.all (place_of c.args.ask.now).0 c.requires.there in
+    let is : kind.Shard c.in-Shard.shard ≡ get_or ps (index_in ps (place_of c.args.ask.now).0) (kind.Shard c.in-Shard.shard) = rw spot at (rw c.in-Shard.is at c.index_mut.ensures.value) in
+    rw spot (shard_counts ps c.requires.service.all c.args.ask.now lt c.in-Shard.shard c.serve.new.self is c.serve.ensures.index)
+
+pub returns-in-Shard-clause-service : goal.returns-in-Shard-clause-service
+returns-in-Shard-clause-service c =
+    let ps = places_of c.args.self.now in
+    let spot : c.index_of-index.result ≡ index_in ps (place_of c.args.ask.now).0 = c.index_of-index.ensures ∙ ap (λ (place : PlaceNo). index_in ps place.0) c.place.ensures in
+    let lt = stands_there ps c.requires.service.all (place_of c.args.ask.now).0 c.requires.there in
+    let is : kind.Shard c.in-Shard.shard ≡ get_or ps (index_in ps (place_of c.args.ask.now).0) (kind.Shard c.in-Shard.shard) = rw spot at (rw c.in-Shard.is at c.index_mut.ensures.value) in
+    rw spot (record { all = shard_service ps c.requires.service.all c.args.ask.now lt c.in-Shard.shard c.serve.new.self is c.serve.ensures.index c.args.actor c.args.last c.serve.result c.serve.ensures.contents c.serve.ensures.err; counted = c.requires.service.counted ∙ sym (ap (λ counts. counts.shards) (shard_counts ps c.requires.service.all c.args.ask.now lt c.in-Shard.shard c.serve.new.self is c.serve.ensures.index)) })
+
+pub serve-requires-in-Store : goal.serve-requires-in-Store
+serve-requires-in-Store c =
+    let ps = places_of c.args.self.now in
+    let spot : c.index_of-index.result ≡ index_in ps (place_of c.args.ask.now).0 = c.index_of-index.ensures ∙ ap (λ (place : PlaceNo). index_in ps place.0) c.place.ensures in
+    let lt = stands_there ps c.requires.service.all (place_of c.args.ask.now).0 c.requires.there in
+    let is : kind.Store c.in-Store.store ≡ get_or ps (index_in ps (place_of c.args.ask.now).0) (kind.Store c.in-Store.store) = rw spot at (rw c.in-Store.is at c.index_mut.ensures.value) in
+    record { here = sym (number_here ps (place_of c.args.ask.now).0 (kind.Store c.in-Store.store) lt is) }
+
+pub returns-in-Store-clause-entry : goal.returns-in-Store-clause-entry
+returns-in-Store-clause-entry c =
+    let ps = places_of c.args.self.now in
+    let spot : c.index_of-index.result ≡ index_in ps (place_of c.args.ask.now).0 = c.index_of-index.ensures ∙ ap (λ (place : PlaceNo). index_in ps place.0) c.place.ensures in
+    let lt = stands_there ps c.requires.service.all (place_of c.args.ask.now).0 c.requires.there in
+    let is : kind.Store c.in-Store.store ≡ get_or ps (index_in ps (place_of c.args.ask.now).0) (kind.Store c.in-Store.store) = rw spot at (rw c.in-Store.is at c.index_mut.ensures.value) in
+    store_entered ps c.requires.service.all c.args.ask.now lt c.in-Store.store c.serve-in-Store.new.self is c.serve-in-Store.ensures.index c.args.actor c.args.last c.serve-in-Store.result c.serve-in-Store.ensures.entry
+
+pub returns-in-Store-clause-held : goal.returns-in-Store-clause-held
+returns-in-Store-clause-held c =
+    let ps = places_of c.args.self.now in
+    let spot : c.index_of-index.result ≡ index_in ps (place_of c.args.ask.now).0 = c.index_of-index.ensures ∙ ap (λ (place : PlaceNo). index_in ps place.0) c.place.ensures in
+    let lt = stands_there ps c.requires.service.all (place_of c.args.ask.now).0 c.requires.there in
+    let is : kind.Store c.in-Store.store ≡ get_or ps (index_in ps (place_of c.args.ask.now).0) (kind.Store c.in-Store.store) = rw spot at (rw c.in-Store.is at c.index_mut.ensures.value) in
+    rw spot (store_held ps c.requires.service.all c.args.ask.now lt c.in-Store.store c.serve-in-Store.new.self is c.serve-in-Store.ensures.index c.args.actor c.args.last c.serve-in-Store.result c.serve-in-Store.ensures.entry c.serve-in-Store.ensures.contents c.serve-in-Store.ensures.log c.serve-in-Store.ensures.last)
+
+pub returns-in-Store-clause-full : goal.returns-in-Store-clause-full
+returns-in-Store-clause-full c =
+    let ps = places_of c.args.self.now in
+    let spot : c.index_of-index.result ≡ index_in ps (place_of c.args.ask.now).0 = c.index_of-index.ensures ∙ ap (λ (place : PlaceNo). index_in ps place.0) c.place.ensures in
+    let lt = stands_there ps c.requires.service.all (place_of c.args.ask.now).0 c.requires.there in
+    let is : kind.Store c.in-Store.store ≡ get_or ps (index_in ps (place_of c.args.ask.now).0) (kind.Store c.in-Store.store) = rw spot at (rw c.in-Store.is at c.index_mut.ensures.value) in
+    let same = full_here ps (place_of c.args.ask.now).0 (kind.Store c.in-Store.store) (kind.Store c.in-Store.store) lt is c.args.last in
+    ((λ e. same ∙ c.serve-in-Store.ensures.full.0 e), (λ e. c.serve-in-Store.ensures.full.1 (sym same ∙ e)))
+
+pub returns-in-Store-clause-counts : goal.returns-in-Store-clause-counts
+returns-in-Store-clause-counts c =
+    let ps = places_of c.args.self.now in
+    let spot : c.index_of-index.result ≡ index_in ps (place_of c.args.ask.now).0 = c.index_of-index.ensures ∙ ap (λ (place : PlaceNo). index_in ps place.0) c.place.ensures in
+    let lt = stands_there ps c.requires.service.all (place_of c.args.ask.now).0 c.requires.there in
+    let is : kind.Store c.in-Store.store ≡ get_or ps (index_in ps (place_of c.args.ask.now).0) (kind.Store c.in-Store.store) = rw spot at (rw c.in-Store.is at c.index_mut.ensures.value) in
+    rw spot (store_counts ps c.requires.service.all c.args.ask.now lt c.in-Store.store c.serve-in-Store.new.self is c.serve-in-Store.ensures.index)
+
+pub returns-in-Store-clause-service : goal.returns-in-Store-clause-service
+returns-in-Store-clause-service c =
+    let ps = places_of c.args.self.now in
+    let spot : c.index_of-index.result ≡ index_in ps (place_of c.args.ask.now).0 = c.index_of-index.ensures ∙ ap (λ (place : PlaceNo). index_in ps place.0) c.place.ensures in
+    let lt = stands_there ps c.requires.service.all (place_of c.args.ask.now).0 c.requires.there in
+    let is : kind.Store c.in-Store.store ≡ get_or ps (index_in ps (place_of c.args.ask.now).0) (kind.Store c.in-Store.store) = rw spot at (rw c.in-Store.is at c.index_mut.ensures.value) in
+    rw spot (record { all = store_service ps c.requires.service.all c.args.ask.now lt c.in-Store.store c.serve-in-Store.new.self is c.serve-in-Store.ensures.index c.args.actor c.args.last c.serve-in-Store.result c.serve-in-Store.ensures.contents c.serve-in-Store.ensures.err; counted = c.requires.service.counted ∙ sym (ap (λ counts. counts.shards) (store_counts ps c.requires.service.all c.args.ask.now lt c.in-Store.store c.serve-in-Store.new.self is c.serve-in-Store.ensures.index)) })
+
+pub returns-in-Desk-clause-entry : goal.returns-in-Desk-clause-entry
+returns-in-Desk-clause-entry c =
+    let ps = places_of c.args.self.now in
+    let spot : c.index_of-index.result ≡ index_in ps (place_of c.args.ask.now).0 = c.index_of-index.ensures ∙ ap (λ (place : PlaceNo). index_in ps place.0) c.place.ensures in
+    let lt = stands_there ps c.requires.service.all (place_of c.args.ask.now).0 c.requires.there in
+    let is : kind.Desk c.in-Desk.desk ≡ get_or ps (index_in ps (place_of c.args.ask.now).0) (kind.Desk c.in-Desk.desk) = rw spot at (rw c.in-Desk.is at c.index_mut.ensures.value) in
+    desk_entered ps c.requires.service.all c.args.ask.now lt c.in-Desk.desk c.serve-in-Desk.new.self is c.args.actor c.args.last c.serve-in-Desk.result c.serve-in-Desk.ensures.entry
+
+pub returns-in-Desk-clause-held : goal.returns-in-Desk-clause-held
+returns-in-Desk-clause-held c =
+    let ps = places_of c.args.self.now in
+    let spot : c.index_of-index.result ≡ index_in ps (place_of c.args.ask.now).0 = c.index_of-index.ensures ∙ ap (λ (place : PlaceNo). index_in ps place.0) c.place.ensures in
+    let lt = stands_there ps c.requires.service.all (place_of c.args.ask.now).0 c.requires.there in
+    let is : kind.Desk c.in-Desk.desk ≡ get_or ps (index_in ps (place_of c.args.ask.now).0) (kind.Desk c.in-Desk.desk) = rw spot at (rw c.in-Desk.is at c.index_mut.ensures.value) in
+    rw spot (desk_held ps c.requires.service.all c.args.ask.now lt c.in-Desk.desk c.serve-in-Desk.new.self is c.args.actor c.args.last c.serve-in-Desk.result c.serve-in-Desk.ensures.entry c.serve-in-Desk.ensures.log c.serve-in-Desk.ensures.last)
+
+pub returns-in-Desk-clause-full : goal.returns-in-Desk-clause-full
+returns-in-Desk-clause-full c =
+    let ps = places_of c.args.self.now in
+    let spot : c.index_of-index.result ≡ index_in ps (place_of c.args.ask.now).0 = c.index_of-index.ensures ∙ ap (λ (place : PlaceNo). index_in ps place.0) c.place.ensures in
+    let lt = stands_there ps c.requires.service.all (place_of c.args.ask.now).0 c.requires.there in
+    let is : kind.Desk c.in-Desk.desk ≡ get_or ps (index_in ps (place_of c.args.ask.now).0) (kind.Desk c.in-Desk.desk) = rw spot at (rw c.in-Desk.is at c.index_mut.ensures.value) in
+    let same = full_here ps (place_of c.args.ask.now).0 (kind.Desk c.in-Desk.desk) (kind.Desk c.in-Desk.desk) lt is c.args.last in
+    ((λ e. same ∙ c.serve-in-Desk.ensures.full.0 e), (λ e. c.serve-in-Desk.ensures.full.1 (sym same ∙ e)))
+
+pub returns-in-Desk-clause-counts : goal.returns-in-Desk-clause-counts
+returns-in-Desk-clause-counts c =
+    let ps = places_of c.args.self.now in
+    let spot : c.index_of-index.result ≡ index_in ps (place_of c.args.ask.now).0 = c.index_of-index.ensures ∙ ap (λ (place : PlaceNo). index_in ps place.0) c.place.ensures in
+    let lt = stands_there ps c.requires.service.all (place_of c.args.ask.now).0 c.requires.there in
+    let is : kind.Desk c.in-Desk.desk ≡ get_or ps (index_in ps (place_of c.args.ask.now).0) (kind.Desk c.in-Desk.desk) = rw spot at (rw c.in-Desk.is at c.index_mut.ensures.value) in
+    rw spot (desk_counts ps c.requires.service.all c.args.ask.now lt c.in-Desk.desk c.serve-in-Desk.new.self is)
+
+pub returns-in-Desk-clause-service : goal.returns-in-Desk-clause-service
+returns-in-Desk-clause-service c =
+    let ps = places_of c.args.self.now in
+    let spot : c.index_of-index.result ≡ index_in ps (place_of c.args.ask.now).0 = c.index_of-index.ensures ∙ ap (λ (place : PlaceNo). index_in ps place.0) c.place.ensures in
+    let lt = stands_there ps c.requires.service.all (place_of c.args.ask.now).0 c.requires.there in
+    let is : kind.Desk c.in-Desk.desk ≡ get_or ps (index_in ps (place_of c.args.ask.now).0) (kind.Desk c.in-Desk.desk) = rw spot at (rw c.in-Desk.is at c.index_mut.ensures.value) in
+    rw spot (record { all = desk_service ps c.requires.service.all c.args.ask.now lt c.in-Desk.desk c.serve-in-Desk.new.self is; counted = c.requires.service.counted ∙ sym (ap (λ counts. counts.shards) (desk_counts ps c.requires.service.all c.args.ask.now lt c.in-Desk.desk c.serve-in-Desk.new.self is)) })
+
+pub returns-in-Roster-clause-entry : goal.returns-in-Roster-clause-entry
+returns-in-Roster-clause-entry c =
+    let ps = places_of c.args.self.now in
+    let spot : c.index_of-index.result ≡ index_in ps (place_of c.args.ask.now).0 = c.index_of-index.ensures ∙ ap (λ (place : PlaceNo). index_in ps place.0) c.place.ensures in
+    let lt = stands_there ps c.requires.service.all (place_of c.args.ask.now).0 c.requires.there in
+    let is : kind.Roster c.in-Roster.roster ≡ get_or ps (index_in ps (place_of c.args.ask.now).0) (kind.Roster c.in-Roster.roster) = rw spot at (rw c.in-Roster.is at c.index_mut.ensures.value) in
+    roster_entered ps c.requires.service.all c.args.ask.now lt c.in-Roster.roster c.serve-in-Roster.new.self is c.args.actor c.args.last c.serve-in-Roster.result c.serve-in-Roster.ensures.entry
+
+pub returns-in-Roster-clause-held : goal.returns-in-Roster-clause-held
+returns-in-Roster-clause-held c =
+    let ps = places_of c.args.self.now in
+    let spot : c.index_of-index.result ≡ index_in ps (place_of c.args.ask.now).0 = c.index_of-index.ensures ∙ ap (λ (place : PlaceNo). index_in ps place.0) c.place.ensures in
+    let lt = stands_there ps c.requires.service.all (place_of c.args.ask.now).0 c.requires.there in
+    let is : kind.Roster c.in-Roster.roster ≡ get_or ps (index_in ps (place_of c.args.ask.now).0) (kind.Roster c.in-Roster.roster) = rw spot at (rw c.in-Roster.is at c.index_mut.ensures.value) in
+    rw spot (roster_held ps c.requires.service.all c.args.ask.now lt c.in-Roster.roster c.serve-in-Roster.new.self is c.args.actor c.args.last c.serve-in-Roster.result c.serve-in-Roster.ensures.entry c.serve-in-Roster.ensures.contents c.serve-in-Roster.ensures.log c.serve-in-Roster.ensures.last)
+
+pub returns-in-Roster-clause-full : goal.returns-in-Roster-clause-full
+returns-in-Roster-clause-full c =
+    let ps = places_of c.args.self.now in
+    let spot : c.index_of-index.result ≡ index_in ps (place_of c.args.ask.now).0 = c.index_of-index.ensures ∙ ap (λ (place : PlaceNo). index_in ps place.0) c.place.ensures in
+    let lt = stands_there ps c.requires.service.all (place_of c.args.ask.now).0 c.requires.there in
+    let is : kind.Roster c.in-Roster.roster ≡ get_or ps (index_in ps (place_of c.args.ask.now).0) (kind.Roster c.in-Roster.roster) = rw spot at (rw c.in-Roster.is at c.index_mut.ensures.value) in
+    let same = full_here ps (place_of c.args.ask.now).0 (kind.Roster c.in-Roster.roster) (kind.Roster c.in-Roster.roster) lt is c.args.last in
+    ((λ e. same ∙ c.serve-in-Roster.ensures.full.0 e), (λ e. c.serve-in-Roster.ensures.full.1 (sym same ∙ e)))
+
+pub returns-in-Roster-clause-counts : goal.returns-in-Roster-clause-counts
+returns-in-Roster-clause-counts c =
+    let ps = places_of c.args.self.now in
+    let spot : c.index_of-index.result ≡ index_in ps (place_of c.args.ask.now).0 = c.index_of-index.ensures ∙ ap (λ (place : PlaceNo). index_in ps place.0) c.place.ensures in
+    let lt = stands_there ps c.requires.service.all (place_of c.args.ask.now).0 c.requires.there in
+    let is : kind.Roster c.in-Roster.roster ≡ get_or ps (index_in ps (place_of c.args.ask.now).0) (kind.Roster c.in-Roster.roster) = rw spot at (rw c.in-Roster.is at c.index_mut.ensures.value) in
+    rw spot (roster_counts ps c.requires.service.all c.args.ask.now lt c.in-Roster.roster c.serve-in-Roster.new.self is)
+
+pub returns-in-Roster-clause-service : goal.returns-in-Roster-clause-service
+returns-in-Roster-clause-service c =
+    let ps = places_of c.args.self.now in
+    let spot : c.index_of-index.result ≡ index_in ps (place_of c.args.ask.now).0 = c.index_of-index.ensures ∙ ap (λ (place : PlaceNo). index_in ps place.0) c.place.ensures in
+    let lt = stands_there ps c.requires.service.all (place_of c.args.ask.now).0 c.requires.there in
+    let is : kind.Roster c.in-Roster.roster ≡ get_or ps (index_in ps (place_of c.args.ask.now).0) (kind.Roster c.in-Roster.roster) = rw spot at (rw c.in-Roster.is at c.index_mut.ensures.value) in
+    rw spot (record { all = roster_service ps c.requires.service.all c.args.ask.now lt c.in-Roster.roster c.serve-in-Roster.new.self is; counted = c.requires.service.counted ∙ sym (ap (λ counts. counts.shards) (roster_counts ps c.requires.service.all c.args.ask.now lt c.in-Roster.roster c.serve-in-Roster.new.self is)) })

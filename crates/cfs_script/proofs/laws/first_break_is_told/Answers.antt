@@ -1,0 +1,5 @@
+use Rattle.cfs_script.proofs.OneBreak.{script_of-refused}
+use Rattle.cfs_script.proofs.laws.first_break_is_told.Goals as goal
+
+pub returns : goal.returns
+returns c = script_of-refused

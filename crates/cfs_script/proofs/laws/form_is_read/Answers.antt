@@ -1,0 +1,5 @@
+use Rattle.cfs_script.proofs.FormRead.{script_of-form}
+use Rattle.cfs_script.proofs.laws.form_is_read.Goals as goal
+
+pub returns : goal.returns
+returns c = script_of-form
