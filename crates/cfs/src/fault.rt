@@ -12,7 +12,7 @@ pub enum Fault {
     /// The word of this index, counted from 0, is not expected.
     #[error("cfs: word {word} is not expected")]
     Usage { word: usize },
-    /// This line of the script, counted from 1, is the first that breaks its form.
+    /// This line of the script, counted from 1, is the first that has a fault.
     #[error("cfs: line {line}: {fault:?}")]
     Script { line: u64, fault: ScriptFault },
     /// Reading standard input failed.

@@ -61,12 +61,12 @@ fn the_words_after_the_name(rt: HostRuntime) -> Result<(), Fail> {
 
 #[test]
 fn each_status_has_its_line(rt: HostRuntime) -> Result<(), Fail> {
-    let fault = ScriptFault::NotBuilt;
+    let fault = ScriptFault::BadPath;
     let place = PlaceNo(0);
     let cases = [
         (Status::Done, ""),
         (Status::Usage { word: 1 }, "cfs: word 1 is not expected"),
-        (Status::Script { line: 2, fault }, "cfs: line 2: NotBuilt"),
+        (Status::Script { line: 2, fault }, "cfs: line 2: BadPath"),
         (Status::ReadFault, "cfs: reading failed"),
         (Status::WriteFault, "cfs: writing failed"),
         (Status::NoMemory, "cfs: no memory"),
@@ -74,6 +74,24 @@ fn each_status_has_its_line(rt: HostRuntime) -> Result<(), Fail> {
     ];
     for (status, line) in cases {
         let text = line_of(rt.alloc(), status)?;
+        assert_eq!(rt; text.as_str(), line);
+    }
+    Ok(())
+}
+
+#[test]
+fn each_fault_has_its_name(rt: HostRuntime) -> Result<(), Fail> {
+    let cases = [
+        (ScriptFault::NoPlaces, "cfs: line 7: NoPlaces"),
+        (ScriptFault::BadNumber, "cfs: line 7: BadNumber"),
+        (ScriptFault::BadCommand, "cfs: line 7: BadCommand"),
+        (ScriptFault::TooMany, "cfs: line 7: TooMany"),
+        (ScriptFault::LineTooLong, "cfs: line 7: LineTooLong"),
+        (ScriptFault::LateLine, "cfs: line 7: LateLine"),
+        (ScriptFault::NotBuilt, "cfs: line 7: NotBuilt"),
+    ];
+    for (fault, line) in cases {
+        let text = line_of(rt.alloc(), Status::Script { line: 7, fault })?;
         assert_eq!(rt; text.as_str(), line);
     }
     Ok(())

@@ -1,5 +1,6 @@
 pub mod Alike
 pub mod Among
+pub mod Commands
 pub mod Counting
 pub mod Ends
 pub mod Listed

@@ -3,10 +3,11 @@ use Rattle.std.proofs.Common.{◌≡◌, ℕ, suc, zero, List, [], ◌∷◌, Bo
 use Rattle.std.specs.Prelude.{if◌then◌else◌, ◌==◌}
 use Rattle.std.specs.List.{list_all}
 use Rattle.cfs_ids.specs.declared.ids.Client.{Client}
-use Rattle.cfs_script.specs.declared.command.Command.{Command}
-use Rattle.cfs_script.specs.declared.command.Command.TheVariants.{Create, Mkdir, Lookup, List as ListCommand}
+use Rattle.cfs_ids.specs.declared.ids.DirId.{DirId}
+use Rattle.cfs_walk.specs.declared.command.Command.{Command}
+use Rattle.cfs_walk.specs.declared.command.Command.TheVariants.{Lookup, List as ListCommand, Stat, Create, Mkdir, Unlink, Rmdir, Truncate, Rename}
 use Rattle.cfs_script.specs.declared.script.Script.{Script}
-use Rattle.cfs_script.specs.Calls.{call_of}
+use Rattle.cfs_script.specs.Calls.{call_of, root}
 use Rattle.cfs_rules.specs.Worlds.{Counts, AreCounts, Progress, opening, dir_of}
 use Rattle.cfs_view.specs.Held.{Held, opening_held}
 use Rattle.cfs_actor.specs.declared.client_state.ClientState.{ClientState}
@@ -33,11 +34,19 @@ pub opens-world : (states : List ClientState) (script : Script) (h : Held) → h
 opens-world states script h is e = λ j. world_from [] (is j) (progress_in-started states script.commands e j)
 
 -- ---- the calls of commands are in the root
+pub in-root : (command : Command) → dir_of (call_of command) ≡ root
+in-root (Lookup path) = refl
+in-root (ListCommand path) = refl
+in-root (Stat path) = refl
+in-root (Create path) = refl
+in-root (Mkdir path) = refl
+in-root (Unlink path) = refl
+in-root (Rmdir path) = refl
+in-root (Truncate path size) = refl
+in-root (Rename path to) = refl
+
 command_there : (counts : Counts) → AreCounts counts → (command : Command) → dir_there counts (dir_of (call_of command)) ≡ true
-command_there counts good (Create name) = root_there counts good
-command_there counts good (Mkdir name) = root_there counts good
-command_there counts good (Lookup name) = root_there counts good
-command_there counts good ListCommand = root_there counts good
+command_there counts good command = subst (λ (d : DirId). dir_there counts d ≡ true) (sym (in-root command)) (root_there counts good)
 
 commands_there : (counts : Counts) → AreCounts counts → (commands : List Command) → list_all (λ call. dir_there counts (dir_of call)) (map call_of commands) ≡ true
 commands_there counts good [] = refl

@@ -3,7 +3,7 @@ use Rattle.std.proofs.Common.{◌≡◌, ℕ, suc, zero, ◌+◌, ◌<◌, List,
 use Rattle.std.specs.Prelude.{if◌then◌else◌, ◌==◌}
 use Rattle.std.proofs.lemmas.List.{take_more, map-append}
 use Rattle.cfs_ids.specs.declared.ids.Client.{Client}
-use Rattle.cfs_script.specs.declared.command.Command.{Command}
+use Rattle.cfs_walk.specs.declared.command.Command.{Command}
 use Rattle.cfs_script.specs.Calls.{call_of}
 use Rattle.cfs_rules.specs.Worlds.{Progress, starts, calls_of}
 use Rattle.cfs_actor.specs.declared.client_state.ClientState.{ClientState}

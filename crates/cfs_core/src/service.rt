@@ -1,10 +1,12 @@
 //! Places and clients, turned step by step.
 ghost use Rattle.std.specs.Prelude.{◌≡◌, ◌≢◌, ◌≤◌, ◌↔◌, ◌+◌, IsTrue, true, false, Ok, Some, IfOk, IfErr};
+ghost use Rattle.std.specs.List.{list_all};
 ghost use Rattle.std.proofs.Props.{props};
 ghost use Rattle.cfs_rules.proofs.OnlyOne.{AreNumbered-prop, AreOwnShards-prop, AreOwnStores-prop};
 ghost use Rattle.cfs_steps.specs.declared.ask.Ask.{Ask};
 ghost use Rattle.cfs_steps.specs.Asks.{place_of};
 ghost use Rattle.cfs_rules.specs.Worlds.{AreCounts, client_of, opening, turn};
+ghost use Rattle.cfs_script.specs.Outcomes.{are_built};
 ghost use Rattle.cfs_view.specs.Held.{opening_held, log_full};
 ghost use Rattle.cfs_view.specs.Views.{held, counts_of as places_of};
 ghost use Rattle.cfs_core.specs.Clients.{IsSound, number_in};
@@ -43,10 +45,11 @@ pub struct Core {
 impl Core {
     ghost use Rattle.cfs_core.specs.Cores.{world_of, counts_of, members_of, is_member, steps_of, held_of, held_after, asked_of, AsksFull};
 
-    /// The core of a script of 1 to 64 shards and 1 to 64 stores, before its first turn. The Err is want of
-    /// memory.
+    /// The core of a script of 1 to 64 shards and 1 to 64 stores, whose commands are built, before its first turn. The
+    /// Err is want of memory.
     pub fn begin(alloc: Global, script: &Script) -> Result<Core, NoMemory>
-        requires { AreCounts (setup_of script.now).counts }
+        requires counts { AreCounts (setup_of script.now).counts }
+        requires built { IsTrue (list_all are_built script.now.commands) }
         ensures world { IfOk result (λ core. world_of core ≡ opening (setup_of script.now)) }
         ensures counts { IfOk result (λ core. counts_of core ≡ (setup_of script.now).counts) }
         ensures members { IfOk result (λ core. members_of core ≡ members_in script.now.commands) }

@@ -1,10 +1,12 @@
 //! A run of two shards and a store, in which a create finds the name of a mkdir, on values typed by hand.
-ghost use Rattle.std.specs.Prelude.{◌≡◌, ◌∷◌, ◌<◌, ◌≤◌, [], IfOk};
+ghost use Rattle.std.specs.Prelude.{◌≡◌, ◌∷◌, ◌<◌, ◌≤◌, [], IfOk, IsTrue};
+ghost use Rattle.cfs_ids.specs.Names.{is_allowed};
 ghost use Rattle.cfs_core.specs.Cores.{members_of};
 
 use crate::{Core, Run, Turned};
-use cfs_ids::{Actor, At, Call, Client, DirId, Errno, Name, NoMemory, Node, PlaceNo, Reply, Stamp};
+use cfs_ids::{Actor, At, Call, Client, DirId, Errno, NoMemory, Node, PlaceNo, Reply, Stamp};
 use cfs_script::{Command, CommandLists, Script, TurnList};
+use cfs_walk::{Component, Path};
 use std::alloc::Global;
 use std::process::Abort;
 use std::test::Fail;
@@ -31,16 +33,28 @@ fn stamp(place: u32, number: u64) -> Stamp {
     }
 }
 
+// The path of a name of one byte in the root.
+fn entry(alloc: Global, byte: u8) -> Result<Path, Fail>
+    requires { IsTrue (is_allowed byte) }
+    ensures { IfOk result (λ path. path ≡ (byte ∷ []) ∷ []) }
+{
+    let mut name = Component::new(alloc);
+    name.push(byte)?;
+    let mut path = Path::new(alloc);
+    path.push(name)?;
+    Ok(path)
+}
+
 // Client 1 makes the directory x, client 2 the file x and the directory y.
 fn opening(alloc: Global) -> Result<Core, Fail>
     ensures { IfOk result (λ core. members_of core ≡ 1 ∷ 2 ∷ []) }
 {
     let mut commands = CommandLists::new(alloc);
-    let mkdir = Command::Mkdir(Name::read(alloc, b"x")?);
+    let mkdir = Command::Mkdir(entry(alloc, b'x')?);
     commands.add(alloc, Client(1), mkdir)?;
-    let create = Command::Create(Name::read(alloc, b"x")?);
+    let create = Command::Create(entry(alloc, b'x')?);
     commands.add(alloc, Client(2), create)?;
-    let mkdir = Command::Mkdir(Name::read(alloc, b"y")?);
+    let mkdir = Command::Mkdir(entry(alloc, b'y')?);
     commands.add(alloc, Client(2), mkdir)?;
     let script = Script {
         shards: 2,

@@ -2,5 +2,7 @@
 #![tactic(auto)]
 
 mod histories;
+#[cfg(test)]
+mod tests;
 
 pub use histories::history;

@@ -1,8 +1,8 @@
 -- Runs, turn by turn.
-use Rattle.std.proofs.Common.{◌≡◌, ℕ, ◌+◌, ◌<◌, List, [], ◌∷◌, ◌++◌, Bool, true, false, ◌==◌, refl, sym, ap, ◌∙◌, subst, map, take, get_or, length, Ok, Result}
-use Rattle.std.specs.Prelude.{IsTrue}
+use Rattle.std.proofs.Common.{◌≡◌, ℕ, suc, zero, ◌+◌, ◌<◌, List, [], ◌∷◌, ◌++◌, Bool, true, false, ◌==◌, refl, sym, ap, ◌∙◌, subst, map, take, get_or, length, arith, Ok, Some, Result}
+use Rattle.std.specs.Prelude.{IsTrue, replicate, slice_get}
 use Rattle.std.specs.List.{list_any, list_all}
-use Rattle.std.proofs.lemmas.List.{take_more, map-append, take-map, length-map}
+use Rattle.std.proofs.lemmas.List.{replicate_more, map-append, take-map, length-map, length-replicate}
 use Rattle.std.proofs.lemmas.Option.{slice_get-get_or}
 use Rattle.std.proofs.lemmas.List.Folds.{list_all_at}
 use Rattle.cfs_ids.specs.declared.ids.Actor.{Actor}
@@ -28,11 +28,6 @@ run-append counts (x ∷ xs) ys w = run-append counts xs ys (turn counts w x)
 pub idle-turn : (counts : Counts) (w : World) (c : ℕ) → (w.clients c).ended ≡ true → turn counts w c ≡ w
 idle-turn counts w c e = ap (λ (b : Bool). turn_asking w c (w.clients c) (asked_next counts (numbered c) (w.clients c).puts b (w.clients c).current)) e
 
--- whether a client is a member, by the numbers
-pub by-number : (states : List ClientState) (c : ℕ) → list_any (λ m. m == c) (members_of states) ≡ is_member states c
-by-number [] c = refl
-by-number (s ∷ states) c = rw (by-number states c) refl
-
 -- the turns before, and then these
 played-on : (setup : Setup) (before turns : List ℕ) (core : Core) → IsPlayed setup before core → played setup (before ++ turns) ≡ run_of (counts_of core) turns (world_of core)
 played-on setup before turns core is = run-append setup.counts before turns (opening setup) ∙ (λ j. run_of (is.counts j) turns (sym is.world j))
@@ -45,28 +40,28 @@ pub attributes-at : (setup : Setup) (before : List ℕ) (core : Core) → IsPlay
 attributes-at setup before core is turns n = let some = take n (map number_in turns) in
     subst (λ (w : World). AttributesHold w.shard w.store) (played-on setup before some core is) (attributes_hold setup is.good (before ++ some))
 
--- what holds of all turns holds of each
-pub true-at : {X : Type 0} (p : X → Bool) (xs : List X) (i : ℕ) (d : X) → i < length xs → IsTrue (list_all p xs) → IsTrue (p (get_or xs i d))
-true-at p xs i d lt all = by_test (p (get_or xs i d)) refl
-  where
-    by_test : (b : Bool) → p (get_or xs i d) ≡ b → IsTrue b
-    by_test true e = cc
-    by_test false e = let no : IsTrue false = rw (list_all_at p xs i d lt e) at all in cc
+-- one more turn of the same actor
+pub run-more : (counts : Counts) (actor : Actor) (made : ℕ) (w : World) → run_of counts (map number_in (replicate (made + 1) actor)) w ≡ turn counts (run_of counts (map number_in (replicate made actor)) w) (number_in actor)
+run-more counts actor made w = ap (λ (turns : List ℕ). run_of counts turns w) (ap (map number_in) (sym (replicate_more made actor)) ∙ map-append number_in (replicate made actor) (actor ∷ []))
+    ∙ run-append counts (map number_in (replicate made actor)) (number_in actor ∷ []) w
 
-pub is-member : (states : List ClientState) (members : List ℕ) (c : ℕ) → members_of states ≡ members → IsTrue (list_any (λ m. m == c) members) → IsTrue (is_member states c)
-is-member states members c same h = subst IsTrue (ap (λ (ms : List ℕ). list_any (λ m. m == c) ms) (sym same) ∙ by-number states c) h
+pub take-replicate : (made count : ℕ) (actor : Actor) → made < count → take made (replicate count actor) ≡ replicate made actor
+take-replicate zero zero actor lt = refl
+take-replicate zero (suc count) actor lt = refl
+take-replicate (suc made) zero actor lt = absurd (omega arith)
+take-replicate (suc made) (suc count) actor lt = ap (λ ts. actor ∷ ts) (take-replicate made count actor (omega arith))
 
--- one more turn
-pub run-more : (counts : Counts) (actors : List Actor) (i : ℕ) (d : Actor) (w : World) → i < length actors → run_of counts (map number_in (take (i + 1) actors)) w ≡ turn counts (run_of counts (map number_in (take i actors)) w) (number_in (get_or actors i d))
-run-more counts actors i d w lt = ap (λ (turns : List ℕ). run_of counts turns w) (ap (map number_in) (take_more actors i d lt) ∙ map-append number_in (take i actors) (get_or actors i d ∷ []))
-    ∙ run-append counts (map number_in (take i actors)) (number_in (get_or actors i d) ∷ []) w
+pub get-replicate : (made count : ℕ) (actor : Actor) → made < count → Some actor ≡ slice_get (replicate count actor) made
+get-replicate made zero actor lt = absurd (omega arith)
+get-replicate zero (suc count) actor lt = refl
+get-replicate (suc made) (suc count) actor lt = get-replicate made count actor (omega arith)
 
 -- the turns before one are some of all turns
-abbrev pub stops : (counts : Counts) (actors : List Actor) (i : ℕ) (before after : World) → i < length actors → after ≡ run_of counts (map number_in (take i actors)) before → StopsIn counts (map number_in actors) before after
-stops counts actors i before after lt e = record {
-  made = i;
-  early = rw (sym (length-map actors number_in)) at lt;
-  so_far = e ∙ ap (λ (turns : List ℕ). run_of counts turns before) (sym (take-map number_in i actors));
+abbrev pub stops : (counts : Counts) (actor : Actor) (count made : ℕ) (before after : World) → made < count → after ≡ run_of counts (map number_in (replicate made actor)) before → StopsIn counts (map number_in (replicate count actor)) before after
+stops counts actor count made before after lt e = record {
+  made = made;
+  early = let all = length-map (replicate count actor) number_in in let each = length-replicate count actor in omega (arith, all, each, lt);
+  so_far = e ∙ ap (λ (turns : List ℕ). run_of counts turns before) (ap (map number_in) (sym (take-replicate made count actor lt)) ∙ sym (take-map number_in made (replicate count actor)));
 }
 
 -- of one core to the next, where only what was asked of it has changed
@@ -78,13 +73,13 @@ same-full was is c place world held counts full = record {
   full = ap (λ (h : Held). log_full h full.ask) held ∙ full.full;
 }
 
-pub stops-full : (counts : Counts) (actors : List Actor) (i : ℕ) (d : Actor) (before : World) (was is : Core) (place : PlaceNo) → i < length actors → world_of is ≡ run_of counts (map number_in (take i actors)) before
-    → world_of is ≡ world_of was → held_of is ≡ held_of was → counts_of is ≡ counts_of was → AsksFull was (number_in (get_or actors i d)) place → StopsFull counts actors before is place
-stops-full counts actors i d before was is place lt e world held places full = record {
-  stops = stops counts actors i before (world_of is) lt e;
-  actor = get_or actors i d;
-  next = sym (slice_get-get_or actors i d lt);
-  full = same-full was is (number_in (get_or actors i d)) place world held places full;
+pub stops-full : (counts : Counts) (actor : Actor) (count made : ℕ) (before : World) (was is : Core) (place : PlaceNo) → made < count → world_of is ≡ run_of counts (map number_in (replicate made actor)) before
+    → world_of is ≡ world_of was → held_of is ≡ held_of was → counts_of is ≡ counts_of was → AsksFull was (number_in actor) place → StopsFull counts (replicate count actor) before is place
+stops-full counts actor count made before was is place lt e world held places full = record {
+  stops = stops counts actor count made before (world_of is) lt e;
+  actor = actor;
+  next = get-replicate made count actor lt;
+  full = same-full was is (number_in actor) place world held places full;
 }
 
 pub same-place : (p q : PlaceNo) → ◌≡◌ {A = Result Driven NoMemory} (Ok (Full p)) (Ok (Full q)) → p ≡ q

@@ -12,6 +12,10 @@ use Rattle.cfs_core.specs.declared.service.Core.{Core}
 abbrev pub is_turn_of : List ℕ → Actor → Bool
 is_turn_of members actor = list_any (λ m. m == number_in actor) members
 
+-- whether the turns in a row are of one of these clients
+abbrev pub are_turns_of : List ℕ → Actor × ℕ → Bool
+are_turns_of members listed = is_turn_of members listed.0
+
 -- the second world comes of the first by the turns before one of them
 pub record StopsIn (counts : Counts) (turns : List ℕ) (before after : World) : Type 0 where
   pub made : ℕ

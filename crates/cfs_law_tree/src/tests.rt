@@ -2,12 +2,13 @@
 ghost use Rattle.std.specs.Prelude.{◌≡◌, ◌∷◌, [], IfOk, IsTrue};
 ghost use Rattle.std.specs.List.{list_all};
 ghost use Rattle.cfs_core.specs.Cores.{members_of};
-ghost use Rattle.cfs_law_tree.specs.Drives.{is_turn_of};
+ghost use Rattle.cfs_law_tree.specs.Drives.{are_turns_of};
 
 use crate::{Driven, drive};
 use cfs_core::Core;
-use cfs_ids::{Actor, Client, Name};
+use cfs_ids::{Actor, Client};
 use cfs_script::{Command, CommandLists, Script, TurnList};
+use cfs_walk::{Component, Path};
 use std::alloc::Global;
 use std::process::Abort;
 use std::test::Fail;
@@ -15,14 +16,25 @@ use std::test::Fail;
 // Each step by its place and its number.
 const STEPS: [(u32, u64); 6] = [(64, 1), (64, 2), (0, 3), (64, 4), (0, 4), (64, 5)];
 
+// The path of x in the root.
+fn x(alloc: Global) -> Result<Path, Fail>
+    ensures { IfOk result (λ path. path ≡ (120 ∷ []) ∷ []) }
+{
+    let mut name = Component::new(alloc);
+    name.push(b'x')?;
+    let mut path = Path::new(alloc);
+    path.push(name)?;
+    Ok(path)
+}
+
 // Each of the clients 1 and 2 creates x.
 fn opening(alloc: Global) -> Result<Core, Fail>
     ensures { IfOk result (λ core. members_of core ≡ 1 ∷ 2 ∷ []) }
 {
     let mut commands = CommandLists::new(alloc);
-    let create = Command::Create(Name::read(alloc, b"x")?);
+    let create = Command::Create(x(alloc)?);
     commands.add(alloc, Client(1), create)?;
-    let create = Command::Create(Name::read(alloc, b"x")?);
+    let create = Command::Create(x(alloc)?);
     commands.add(alloc, Client(2), create)?;
     let script = Script {
         shards: 1,
@@ -35,17 +47,14 @@ fn opening(alloc: Global) -> Result<Core, Fail>
 
 // Client 1's turn, three of client 2's, and two more of client 1's.
 fn turns(alloc: Global) -> Result<TurnList, Fail>
-    ensures { IfOk result (λ turns. IsTrue (list_all (is_turn_of (1 ∷ 2 ∷ [])) turns)) }
+    ensures { IfOk result (λ turns. IsTrue (list_all (are_turns_of (1 ∷ 2 ∷ [])) turns)) }
 {
     let one = Actor::Client(Client(1));
     let two = Actor::Client(Client(2));
     let mut turns = TurnList::new(alloc);
-    turns.push(one)?;
-    turns.push(two)?;
-    turns.push(two)?;
-    turns.push(two)?;
-    turns.push(one)?;
-    turns.push(one)?;
+    turns.push((one, 1))?;
+    turns.push((two, 3))?;
+    turns.push((one, 2))?;
     Ok(turns)
 }
 

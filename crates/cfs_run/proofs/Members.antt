@@ -7,11 +7,11 @@ use Rattle.cfs_ids.specs.declared.ids.Actor.{Actor}
 use Rattle.cfs_ids.specs.declared.ids.Actor.TheVariants.{Client as ClientTurn}
 use Rattle.cfs_ids.specs.declared.ids.Client.{Client}
 use Rattle.cfs_rules.specs.Members.{HasCallers, IsBelowAll, IsRising}
-use Rattle.cfs_script.specs.declared.command.Command.{Command}
+use Rattle.cfs_walk.specs.declared.command.Command.{Command}
 use Rattle.cfs_script.specs.Lists.{rises_from}
 use Rattle.cfs_script.specs.Outcomes as script
 use Rattle.cfs_core.specs.Opening.{calls_in, members_in}
-use Rattle.cfs_law_tree.specs.Drives.{is_turn_of}
+use Rattle.cfs_law_tree.specs.Drives.{is_turn_of, are_turns_of}
 
 abbrev pub Lists : Type 0
 Lists = List (Client × List Command)
@@ -54,11 +54,11 @@ in-members (l ∷ lists) c = rw (in-members lists c) refl
 of-turn : (lists : Lists) (actor : Actor) → script.is_turn_of lists actor ≡ is_turn_of (members_in lists) actor
 of-turn lists (ClientTurn client) = in-members lists client.0
 
-pub turns-of : (lists : Lists) (turns : List Actor) → IsTrue (list_all (script.is_turn_of lists) turns) → IsTrue (list_all (is_turn_of (members_in lists)) turns)
+pub turns-of : (lists : Lists) (turns : List (Actor × ℕ)) → IsTrue (list_all (script.are_turns_of lists) turns) → IsTrue (list_all (are_turns_of (members_in lists)) turns)
 turns-of lists [] h = refl
-turns-of lists (actor ∷ turns) h =
-    let parts = both (script.is_turn_of lists actor) (list_all (script.is_turn_of lists) turns) h in
-    joined (is_turn_of (members_in lists) actor) (list_all (is_turn_of (members_in lists)) turns) (subst IsTrue (of-turn lists actor) parts.0) (turns-of lists turns parts.1)
+turns-of lists (listed ∷ turns) h =
+    let parts = both (script.are_turns_of lists listed) (list_all (script.are_turns_of lists) turns) h in
+    joined (are_turns_of (members_in lists) listed) (list_all (are_turns_of (members_in lists)) turns) (subst IsTrue (of-turn lists listed.0) parts.0) (turns-of lists turns parts.1)
   where
     joined : (a b : Bool) → IsTrue a → IsTrue b → IsTrue (a && b)
     joined true b p q = q

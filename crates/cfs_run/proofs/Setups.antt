@@ -1,23 +1,18 @@
 -- A script that is in form has a setup.
-use Rattle.std.proofs.Common.{◌≡◌, ℕ, List, [], ◌∷◌, Bool, true, false, ◌==◌, cond, map, refl}
+use Rattle.std.proofs.Common.{◌≡◌, ℕ, List, [], ◌∷◌, Bool, true, false, ◌==◌, cond, map, ap}
 use Rattle.cfs_ids.specs.declared.ids.Client.{Client}
-use Rattle.cfs_rules.specs.Worlds.{AreCounts, AreInRoot, IsSetup, dir_of}
+use Rattle.cfs_ids.specs.declared.ids.DirId.{DirId}
+use Rattle.cfs_rules.specs.Worlds.{AreCounts, AreInRoot, IsSetup}
 use Rattle.cfs_script.specs.Calls.{call_of}
-use Rattle.cfs_script.specs.declared.command.Command.{Command}
-use Rattle.cfs_script.specs.declared.command.Command.TheVariants.{Create, Mkdir, Lookup, List as ListCommand}
+use Rattle.cfs_walk.specs.declared.command.Command.{Command}
 use Rattle.cfs_script.specs.declared.script.Script.{Script}
 use Rattle.cfs_script.specs.Outcomes.{IsInForm}
 use Rattle.cfs_core.specs.Opening.{calls_in, setup_of}
-
-in-root : (command : Command) → (dir_of (call_of command)).0 ≡ 0
-in-root (Create name) = refl
-in-root (Mkdir name) = refl
-in-root (Lookup name) = refl
-in-root ListCommand = refl
+use Rattle.cfs_core.proofs.Opened.{in-root}
 
 all-in-root : (commands : List Command) → AreInRoot (map call_of commands)
 all-in-root [] = tt
-all-in-root (command ∷ commands) = (in-root command, all-in-root commands)
+all-in-root (command ∷ commands) = (ap (λ (d : DirId). d.0) (in-root command), all-in-root commands)
 
 calls-in-root : (lists : List (Client × List Command)) (c : ℕ) → AreInRoot (calls_in lists c)
 calls-in-root [] c = tt

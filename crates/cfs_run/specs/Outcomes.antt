@@ -4,6 +4,7 @@ use Rattle.std.specs.declared.option.Option.{Option}
 use Rattle.std.specs.Str.{bytes_eq}
 use Rattle.std.specs.Io.KnownBytes.{Appends}
 use Rattle.cfs_io.specs.Output.{AppendsFront}
+use Rattle.cfs_grammar.specs.declared.fault.Fault.{Fault}
 use Rattle.cfs_script.specs.declared.script.Script.{Script}
 use Rattle.cfs_script.specs.Outcomes.{HasRead}
 use Rattle.cfs_print.specs.declared.printed.Printed.{Printed}
@@ -60,11 +61,11 @@ ComesBeforeWriting (status.LogFull place) = Unit {0}
 
 -- the status where the source told what it had left, and that says this: which of them it is, but for faults and
 -- want of memory
-abbrev pub Answers : Status → Result Script ℕ → Type 0
+abbrev pub Answers : Status → Result Script (ℕ × Fault) → Type 0
 Answers status.Done said = IsOk said
 Answers (status.No line) said = ⊥
 Answers (status.Usage word) said = ⊥
-Answers (status.Script line fault) said = said ≡ Err line
+Answers (status.Script line fault) said = said ≡ Err (line, fault)
 Answers status.ReadFault said = Unit {0}
 Answers status.WriteFault said = IsOk said
 Answers status.NoMemory said = Unit {0}

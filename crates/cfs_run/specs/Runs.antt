@@ -10,11 +10,12 @@ use Rattle.cfs_rules.specs.Worlds.{World, Counts, calls_of, client_of, played}
 use Rattle.cfs_laws.specs.EachLine.{HasEachLine}
 use Rattle.cfs_core.specs.Clients.{number_in}
 use Rattle.cfs_core.specs.Opening.{setup_of, members_in}
+use Rattle.cfs_script.specs.Lists.{turns_in}
 use Rattle.cfs_run.specs.Replies.{replies_of}
 
 -- the world after the turns of the script
 abbrev pub world_after : Script → World
-world_after script = played (setup_of script) (map number_in script.turns)
+world_after script = played (setup_of script) (map number_in (turns_in script.turns))
 
 -- What is printed of the world after the turns, for so many shards and stores and for these clients. Its history is legal
 -- and has each move and each call, and the printed tree is the namespace that it ends in.

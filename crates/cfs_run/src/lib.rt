@@ -7,8 +7,6 @@ mod print;
 mod replies;
 mod status;
 mod sure;
-#[cfg(test)]
-mod tests;
 mod top;
 
 pub use gate::{FreeGate, Gate};

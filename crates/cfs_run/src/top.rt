@@ -2,7 +2,7 @@
 ghost use Rattle.std.specs.Prelude.{◌≡◌, ◌≢◌, ◌↔◌, ℕ, List, map, string_bytes, Ok, Some, None, IsSome};
 ghost use Rattle.cfs_ids.specs.declared.ids.PlaceNo.{PlaceNo};
 ghost use Rattle.cfs_io.specs.Causes.{Rose};
-ghost use Rattle.cfs_script.specs.declared.script.Fault.{Fault};
+ghost use Rattle.cfs_grammar.specs.declared.fault.Fault.{Fault};
 ghost use Rattle.cfs_script.specs.declared.script.Script.{Script};
 ghost use Rattle.cfs_script.specs.Forms.{IsScript};
 ghost use Rattle.cfs_script.specs.Outcomes.{HasRefused};
@@ -23,8 +23,8 @@ pub fn replay<S: Source, K: Sink>(alloc: Global, source: &mut S, sink: &mut K) -
     // What was read is a script, and what was taken is the text of its run.
     ensures done { result ≡ Status.Done → Replayed (S.left source.old) (S.left source.new) (K.taken sink.old) (K.taken sink.new) }
 
-    // The first line that breaks the form.
-    ensures script { (line : ℕ) (fault : Fault) → result ≡ Status.Script line fault → HasRefused (S.left source.old) (S.left source.new) line }
+    // The first line that has a fault, with the first of its faults.
+    ensures script { (line : ℕ) (fault : Fault) → result ≡ Status.Script line fault → HasRefused (S.left source.old) (S.left source.new) line fault }
 
     // A fault has its cause, and what was taken is a front of the text.
     ensures read_fault { result ≡ Status.ReadFault → Rose (S.faults source.old) (S.faults source.new) }
@@ -94,8 +94,8 @@ pub fn cfs_words<R: Threads + Wait + Sync, S: Source, K: Sink, G: Gate + Sync>(
     // What was read is a script, and what was taken is the text of its run.
     ensures done { result ≡ Status.Done → Replayed (S.left source.old) (S.left source.new) (K.taken sink.old) (K.taken sink.new) }
 
-    // The first line that breaks the form.
-    ensures script { (line : ℕ) (fault : Fault) → result ≡ Status.Script line fault → HasRefused (S.left source.old) (S.left source.new) line }
+    // The first line that has a fault, with the first of its faults.
+    ensures script { (line : ℕ) (fault : Fault) → result ≡ Status.Script line fault → HasRefused (S.left source.old) (S.left source.new) line fault }
 
     // A fault has its cause, and what was taken is a front of the text.
     ensures read_fault { result ≡ Status.ReadFault → Rose (S.faults source.old) (S.faults source.new) }

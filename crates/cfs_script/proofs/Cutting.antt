@@ -1,39 +1,10 @@
--- What a cut at the first such byte leaves of the pieces.
-use Rattle.std.proofs.Common.{◌≡◌, ℕ, ◌+◌, ◌<◌, ◌≤◌, suc, Bool, true, false, not, cond, List, [], ◌∷◌, Some, None, refl, ap, ◌∙◌, take, drop, length, arith, eqb}
-use Rattle.std.specs.List.{slice_split, position, position_or_len, onto_first}
-use Rattle.std.proofs.lemmas.List.Splits.{slice_split_first, length-slice_split}
+-- What a cut at LF leaves of the lines, and a line without the CR at its end.
+use Rattle.std.proofs.Common.{◌≡◌, ◌≢◌, ℕ, false, List, [], ◌∷◌, ◌++◌, refl, length, arith, eqb}
+use Rattle.std.proofs.lemmas.List.{length_push}
 use Rattle.std.proofs.lemmas.Bool.Decides.{nat_tests}
-use Rattle.cfs_script.specs.Pieces.{pieces, lines, rest_of_lines}
-use Rattle.cfs_script.specs.declared.reading.Reading.{Reading}
-use Rattle.cfs_script.specs.Scripts.{client_line, turns_line, with_turns, places_line}
-
--- no such byte
-split_none : (p : ℕ → Bool) (xs : List ℕ) → length xs ≤ position_or_len p xs → slice_split p xs ≡ xs ∷ []
-split_none p [] h = refl
-split_none p (x ∷ xs) h =
-    elim (p x) as (λ b. (length (x ∷ xs) ≤ cond (not b) (1 + position_or_len p xs) 0) → cond b ([] ∷ slice_split p xs) (onto_first x (slice_split p xs)) ≡ (x ∷ xs) ∷ []) [
-      | true ↦ λ (g : suc (length xs) ≤ 0). absurd (omega arith)
-      | false ↦ λ (g : suc (length xs) ≤ 1 + position_or_len p xs). (let e = split_none p xs (omega arith) in rw e refl)
-    ] h
-
-pub pieces_none : (byte : ℕ) (xs : List ℕ) → position (λ b. eqb b byte) xs ≡ None → pieces byte xs ≡ xs ∷ []
-unfolding pieces
-pieces_none byte xs h = split_none (λ b. eqb b byte) xs (grind (arith, nat_tests))
-
-pub pieces_some : (byte : ℕ) (xs : List ℕ) (i : ℕ) → position (λ b. eqb b byte) xs ≡ Some i → (i < length xs) × (pieces byte xs ≡ take i xs ∷ pieces byte (drop (i + 1) xs))
-unfolding pieces
-pieces_some byte xs i h =
-    let lt : position_or_len (λ b. eqb b byte) xs < length xs = grind (arith, nat_tests) in
-    let is : position_or_len (λ b. eqb b byte) xs ≡ i = grind (arith, nat_tests) in
-    (omega arith, slice_split_first (λ b. eqb b byte) xs 0 lt ∙ ap (λ k. take k xs ∷ slice_split (λ b. eqb b byte) (drop (k + 1) xs)) is)
-
--- the pieces are never none
-pub some_pieces : (byte : ℕ) (xs : List ℕ) → (part : List ℕ) × (more : List (List ℕ)) × (pieces byte xs ≡ part ∷ more)
-unfolding pieces
-some_pieces byte xs = by_pieces _ (slice_split (λ b. eqb b byte) xs) (length-slice_split (λ b. eqb b byte) xs) where
-  by_pieces : (n : ℕ) (ps : List (List ℕ)) → length ps ≡ n + 1 → (part : List ℕ) × (more : List (List ℕ)) × (ps ≡ part ∷ more)
-  by_pieces n [] e = absurd (omega arith)
-  by_pieces n (p ∷ ps) e = (p, ps, refl)
+use Rattle.cfs_grammar.specs.Words.{pieces}
+use Rattle.cfs_grammar.proofs.Cutting.{some_pieces}
+use Rattle.cfs_script.specs.Pieces.{lines, rest_of_lines, without_return}
 
 pub lines_none : (xs : List ℕ) → pieces 10 xs ≡ xs ∷ [] → lines xs ≡ []
 unfolding lines
@@ -51,17 +22,28 @@ pub rest_of_lines_some : (xs line more : List ℕ) → pieces 10 xs ≡ line ∷
 unfolding rest_of_lines
 rest_of_lines_some xs line more h = let some = some_pieces 10 more in rw (h, some.2) refl
 
-pub ruleset cutting = (pieces_none, pieces_some, lines_none, rest_of_lines_none, lines_some, rest_of_lines_some)
+pub ruleset cutting = (lines_none, rest_of_lines_none, lines_some, rest_of_lines_some)
 
--- a fifth field is one too many
-pub client_line_long : (r : Reading) (a b c rest : List ℕ) → client_line r (a ∷ b ∷ c ∷ pieces 32 rest) ≡ None
-unfolding client_line
-client_line_long r a b c rest = let some = some_pieces 32 rest in rw some.2 refl
+-- the CR at the end goes
+pub without_return-push : (xs : List ℕ) → without_return (xs ++ 13 ∷ []) ≡ xs
+unfolding without_return
+without_return-push [] = refl
+without_return-push (x ∷ xs) =
+    let long : eqb (length (xs ++ 13 ∷ [])) 0 ≡ false = grind (arith, nat_tests, length_push) in
+    rw (long, without_return-push xs) refl
 
-pub places_line_long : (a b c rest : List ℕ) → places_line (a ∷ b ∷ c ∷ pieces 32 rest) ≡ None
-unfolding places_line
-places_line_long a b c rest = let some = some_pieces 32 rest in rw some.2 refl
+-- another last byte stays
+pub without_return-other : (xs : List ℕ) (b : ℕ) → b ≢ 13 → without_return (xs ++ b ∷ []) ≡ xs ++ b ∷ []
+unfolding without_return
+without_return-other [] b other = let is : eqb b 13 ≡ false = grind (arith, nat_tests) in rw is refl
+without_return-other (x ∷ xs) b other =
+    let long : eqb (length (xs ++ b ∷ [])) 0 ≡ false = grind (arith, nat_tests, length_push) in
+    rw (long, without_return-other xs b other) refl
 
-pub turns_line_is : (r : Reading) (rest : List ℕ) → turns_line r (pieces 32 rest) ≡ with_turns r (pieces 32 rest)
-unfolding turns_line
-turns_line_is r rest = let some = some_pieces 32 rest in rw some.2 refl
+-- and so does an empty line
+pub without_return-none : (xs : List ℕ) → length xs ≡ 0 → without_return xs ≡ xs
+unfolding without_return
+without_return-none [] h = refl
+without_return-none (x ∷ xs) h = absurd (omega arith)
+
+pub ruleset returning = (without_return-push, without_return-other, without_return-none)

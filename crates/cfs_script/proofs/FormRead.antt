@@ -1,120 +1,147 @@
 -- Each text of the form is read as its script.
-use Rattle.std.proofs.Common.{◌≡◌, ℕ, ◌<◌, ◌≤◌, ◌+◌, Bool, true, false, cond, List, [], ◌∷◌, ◌++◌, length, length-append, map, refl, ap, ◌∙◌, append_assoc, append-nil, arith, Some, Ok}
-use Rattle.std.specs.Prelude.{IsTrue}
-use Rattle.std.specs.List.{All, list_all, flat_map}
-use Rattle.std.proofs.lemmas.List.{map-append, length-map}
-use Rattle.std.proofs.lemmas.List.Elements.{All-head, All-tail}
-use Rattle.std.proofs.lemmas.Grind.{flat_map-append}
-use Rattle.std.proofs.lemmas.List.Folds.{flat_map-map, list_all-append}
+use Rattle.std.proofs.Common.{◌≡◌, ℕ, ◌+◌, ◌<◌, ◌≤◌, Bool, true, false, cond, List, [], ◌∷◌, ◌++◌, length, refl, ap, sym, ◌∙◌, append_assoc, append-nil, arith, Option, Some, None, Ok}
+use Rattle.std.specs.List.{All}
+use Rattle.std.proofs.lemmas.List.Elements.{All-head, All-tail, All-same}
+use Rattle.cfs_ids.specs.declared.ids.Actor.{Actor}
 use Rattle.cfs_ids.specs.declared.ids.Client.{Client}
-use Rattle.cfs_ids.specs.declared.ids.Actor.TheVariants.{Client as ClientTurn}
-use Rattle.cfs_script.specs.declared.command.Command.{Command}
+use Rattle.cfs_walk.specs.declared.command.Command.{Command}
+use Rattle.cfs_grammar.specs.declared.order.Order.{Order}
+use Rattle.cfs_grammar.specs.declared.turns.ListedTurns.{ListedTurns}
 use Rattle.cfs_script.specs.declared.reading.Reading.{Reading}
 use Rattle.cfs_script.specs.declared.script.Script.{Script}
-use Rattle.cfs_script.specs.Forms.{places_text, order_text, turns_text, ended, script_text, grouped_from, grouped, lists_in, IsCount, IsOrder, IsTurns, IsScript}
-use Rattle.cfs_script.specs.Lists.{is_in}
-use Rattle.cfs_script.specs.Scripts.{is_list, start, ordered, with_line, after_lines, by_lines, script_of}
-use Rattle.cfs_script.proofs.Accepted.{flat}
-use Rattle.cfs_script.proofs.FormLines.{MayTurn, all_turned, places-lacks, order-lacks, turns-lacks, places_line-read, order-read, turns-read}
-use Rattle.cfs_script.proofs.Limits.{script_of-lines}
-use Rattle.cfs_script.proofs.Parts.{lacks}
-use Rattle.cfs_script.proofs.Rising.{is_in-range, rises_from-grouped}
+use Rattle.cfs_script.specs.Forms.{IsSilent, MaySayOrder, MaySayTurns, Each, orders_in, grouped_from, grouped, lists_in, texts, all_lines, IsScript}
+use Rattle.cfs_script.specs.Pieces.{lines, rest_of_lines}
+use Rattle.cfs_script.specs.Scripts.{is_list, start, ordered, turned, turn_count, client_turns, script_of}
+use Rattle.cfs_script.proofs.Turning.{flat, client_turns-append, turn_count-append}
+use Rattle.cfs_script.proofs.Texts.{silent-text, places-text, order-text, turns-text}
+use Rattle.cfs_script.proofs.Through.{IsShort, Goes, Goes-append, lines_of, texts_of, all_lines-are, texts-are, script_of-goes}
 
--- ---- the lines of a text
-abbrev lines_of : ℕ → ℕ → List (Client × Command) → List (List Client) → List (List ℕ)
-lines_of shards stores orders turns = places_text shards stores ∷ (map order_text orders ++ map turns_text turns)
+-- ---- texts that say nothing
+pub silent-goes : (s : Option Reading) (texts : List (List ℕ)) → All IsSilent texts → Goes s texts s
+silent-goes s [] each = refl
+silent-goes s (text ∷ texts) each = (s, silent-text s text (All-head IsSilent text texts each), silent-goes s texts (All-tail IsSilent text texts each))
 
-script_text-lines : (shards stores : ℕ) (orders : List (Client × Command)) (turns : List (List Client)) → script_text shards stores orders turns ≡ flat_map ended (lines_of shards stores orders turns)
-script_text-lines shards stores orders turns =
-    rw (flat_map-append ended (map order_text orders) (map turns_text turns), flat_map-map ended order_text orders, flat_map-map ended turns_text turns) refl
-
-orders-lack : (orders : List (Client × Command)) → All IsOrder orders → list_all (lacks 10) (map order_text orders) ≡ true
-orders-lack [] each = refl
-orders-lack (o ∷ orders) each = rw (order-lacks o (All-head IsOrder o orders each)) (orders-lack orders (All-tail IsOrder o orders each))
-
-all_turns-lack : (turns : List (List Client)) → list_all (lacks 10) (map turns_text turns) ≡ true
-all_turns-lack [] = refl
-all_turns-lack (t ∷ turns) = rw (turns-lacks t) (all_turns-lack turns)
-
-lines_of-lack : (shards stores : ℕ) (orders : List (Client × Command)) (turns : List (List Client)) → All IsOrder orders → list_all (lacks 10) (lines_of shards stores orders turns) ≡ true
-lines_of-lack shards stores orders turns each =
-    rw (places-lacks shards stores, list_all-append (lacks 10) (map order_text orders) (map turns_text turns), orders-lack orders each) (all_turns-lack turns)
-
--- ---- the lines of turns
-record MayBeTurns (lists : List (Client × List Command)) (clients : List Client) : Type 0 where
-  pub some : 0 < length clients
-  pub short : length (turns_text clients) ≤ 4096
-  pub each : All (MayTurn lists) clients
-
-pub after_lines-some : (number : ℕ) (r s : Reading) (line : List ℕ) (more : List (List ℕ)) (ends : Bool) → with_line r line ≡ Some s → after_lines number r (line ∷ more) ends ≡ after_lines (number + 1) s more ends
-unfolding after_lines
-after_lines-some number r s line more ends is = rw is refl
-
-turned-more : (r : Reading) (t : List Client) (turns : List (List Client)) → (all_turned (all_turned r t) (flat turns)).script ≡ (all_turned r (flat (t ∷ turns))).script
-turned-more r t turns = rw (map-append ClientTurn t (flat turns), append_assoc r.script.turns (map ClientTurn t) (map ClientTurn (flat turns))) refl
-
-after_turns : (number : ℕ) (r : Reading) (turns : List (List Client)) → All (MayBeTurns r.script.commands) turns → length r.script.turns + length (flat turns) ≤ 1000000 → after_lines number r (map turns_text turns) true ≡ Ok (all_turned r (flat turns)).script
-unfolding after_lines
-after_turns number r [] each few = rw (append-nil r.script.turns) refl
-after_turns number r (t ∷ turns) each few =
-    let h = All-head (MayBeTurns r.script.commands) t turns each in
-    let len = length-append t (flat turns) in
-    let so_far = length-append r.script.turns (map ClientTurn t) in
-    let mapped = length-map t ClientTurn in
-    after_lines-some number r (all_turned r t) (turns_text t) (map turns_text turns) true (turns-read r t h.some h.short h.each (omega (arith, len)))
-    ∙ after_turns (number + 1) (all_turned r t) turns (All-tail (MayBeTurns r.script.commands) t turns each) (omega (arith, len, so_far, mapped))
-    ∙ ap (λ (s : Script). Ok s) (turned-more r t turns)
-
--- ---- the lines of commands
--- the reading with these commands behind its own
-abbrev all_ordered : Reading → List (Client × Command) → Reading
+-- ---- the reading with these orders behind its own
+abbrev all_ordered : Reading → List Order → Reading
 all_ordered r [] = r
-all_ordered r (o ∷ orders) = all_ordered (ordered r o.0 o.1) orders
+all_ordered r (order ∷ orders) = all_ordered (ordered r order) orders
 
-all_ordered-script : (r : Reading) (orders : List (Client × Command)) →
-    (all_ordered r orders).script ≡ record { shards = r.script.shards; stores = r.script.stores; commands = grouped_from r.script.commands orders; turns = r.script.turns }
+-- a script with these commands and turns in place of its own
+abbrev holding : Script → List (Client × List Command) → List (Actor × ℕ) → Script
+holding script commands turns = record { shards = script.shards; stores = script.stores; commands = commands; turns = turns }
+
+all_ordered-script : (r : Reading) (orders : List Order) → (all_ordered r orders).script ≡ holding r.script (grouped_from r.script.commands orders) r.script.turns
 all_ordered-script r [] = refl
-all_ordered-script r (o ∷ orders) = all_ordered-script (ordered r o.0 o.1) orders
+all_ordered-script r (order ∷ orders) = all_ordered-script (ordered r order) orders
 
-after_orders : (number : ℕ) (r : Reading) (orders : List (Client × Command)) (more : List (List ℕ)) (script : Script) → All IsOrder orders → length r.script.turns ≡ 0 → r.commands + length orders ≤ 65536 → r.lists + lists_in orders ≤ 128 →
-    ((n : ℕ) → after_lines n (all_ordered r orders) more true ≡ Ok script) → after_lines number r (map order_text orders ++ more) true ≡ Ok script
-after_orders number r [] more script each none few rare rest = rest number
-after_orders number r (o ∷ orders) more script each none few rare rest =
-    after_lines-some number r (ordered r o.0 o.1) (order_text o) (map order_text orders ++ more) true (order-read r o (All-head IsOrder o orders each) none (omega arith) room)
-    ∙ after_orders (number + 1) (ordered r o.0 o.1) orders more script (All-tail IsOrder o orders each) none (omega arith) (fewer (is_list o.1) refl) rest
+all_ordered-turns : (r : Reading) (orders : List Order) → (all_ordered r orders).turns ≡ r.turns
+all_ordered-turns r [] = refl
+all_ordered-turns r (order ∷ orders) = all_ordered-turns (ordered r order) orders
+
+orders-go : (r : Reading) (texts : List (List ℕ)) (orders : List (Option Order)) → Each MaySayOrder texts orders → length r.script.turns ≡ 0 → r.commands + length (orders_in orders) ≤ 65536 → r.lists + lists_in (orders_in orders) ≤ 128 →
+    Goes (Some r) texts (Some (all_ordered r (orders_in orders)))
+orders-go r [] [] each none few rare = refl
+orders-go r [] (o ∷ os) each none few rare = absurd each
+orders-go r (t ∷ ts) [] each none few rare = absurd each
+orders-go r (t ∷ ts) (None ∷ os) each none few rare = (Some r, silent-text (Some r) t each.0, orders-go r ts os each.1 none few rare)
+orders-go r (t ∷ ts) (Some order ∷ os) each none few rare =
+    (Some (ordered r order), order-text r t order each.0 (record { none = none; few = omega arith; rare = room }), orders-go (ordered r order) ts os each.1 none (omega arith) (fewer (is_list order.command) refl))
   where
-    room : is_list o.1 ≡ true → r.lists < 128
-    room listed = let one : lists_in (o ∷ orders) ≡ 1 + lists_in orders = ap (λ (b : Bool). cond b 1 0 + lists_in orders) listed in omega (arith, rare, one)
+    room : is_list order.command ≡ true → r.lists < 128
+    room listed = let one : lists_in (order ∷ orders_in os) ≡ 1 + lists_in (orders_in os) = ap (λ (b : Bool). cond b 1 0 + lists_in (orders_in os)) listed in omega (arith, rare, one)
 
-    fewer : (b : Bool) → is_list o.1 ≡ b → cond b (r.lists + 1) r.lists + lists_in orders ≤ 128
-    fewer true listed = let one : lists_in (o ∷ orders) ≡ 1 + lists_in orders = ap (λ (b : Bool). cond b 1 0 + lists_in orders) listed in omega (arith, rare, one)
-    fewer false listed = let none : lists_in (o ∷ orders) ≡ 0 + lists_in orders = ap (λ (b : Bool). cond b 1 0 + lists_in orders) listed in omega (arith, rare, none)
+    fewer : (b : Bool) → is_list order.command ≡ b → cond b (r.lists + 1) r.lists + lists_in (orders_in os) ≤ 128
+    fewer true listed = let one : lists_in (order ∷ orders_in os) ≡ 1 + lists_in (orders_in os) = ap (λ (b : Bool). cond b 1 0 + lists_in (orders_in os)) listed in omega (arith, rare, one)
+    fewer false other = let same : lists_in (order ∷ orders_in os) ≡ 0 + lists_in (orders_in os) = ap (λ (b : Bool). cond b 1 0 + lists_in (orders_in os)) other in omega (arith, rare, same)
+
+-- ---- the reading with these turns behind its own
+record IsTurned (r : Reading) (texts : List (List ℕ)) (turns : List ListedTurns) : Type 0 where
+  pub last : Reading
+  pub goes : Goes (Some r) texts (Some last)
+  pub is : last.script ≡ holding r.script r.script.commands (r.script.turns ++ client_turns turns)
+
+turns-go : (r : Reading) (texts : List (List ℕ)) (listed : List (List ListedTurns)) → Each (MaySayTurns r.script.commands) texts listed → r.turns + turn_count (flat listed) ≤ 1000000 → IsTurned r texts (flat listed)
+turns-go r [] [] each few = record { last = r; goes = refl; is = ap (λ (l : List (Actor × ℕ)). holding r.script r.script.commands l) (sym (append-nil r.script.turns)) }
+turns-go r [] (l ∷ ls) each few = absurd each
+turns-go r (t ∷ ts) [] each few = absurd each
+turns-go r (t ∷ ts) ([] ∷ ls) each few = let h = turns-go r ts ls each.1 few in record { last = h.last; goes = (Some r, silent-text (Some r) t each.0, h.goes); is = h.is }
+turns-go r (t ∷ ts) ((x ∷ xs) ∷ ls) each few =
+    let parts : turn_count (flat ((x ∷ xs) ∷ ls)) ≡ turn_count (x ∷ xs) + turn_count (flat ls) = turn_count-append (x ∷ xs) (flat ls) in
+    let low : r.turns + turn_count (x ∷ xs) ≤ 1000000 = omega (arith, few, parts) in
+    let rest : (r.turns + turn_count (x ∷ xs)) + turn_count (flat ls) ≤ 1000000 = omega (arith, few, parts) in
+    let h = turns-go (turned r (x ∷ xs)) ts ls each.1 rest in record {
+      last = h.last;
+      goes = (Some (turned r (x ∷ xs)), turns-text r t x xs each.0 low, h.goes);
+      is = h.is ∙ ap (λ (l : List (Actor × ℕ)). holding r.script r.script.commands l) (
+          append_assoc r.script.turns (client_turns (x ∷ xs)) (client_turns (flat ls))
+          ∙ ap (λ (l : List (Actor × ℕ)). r.script.turns ++ l) (sym (client_turns-append (x ∷ xs) (flat ls))));
+    }
 
 -- ---- the whole text
-may_turn : (orders : List (Client × Command)) (c : Client) → All IsOrder orders → IsTrue (is_in (grouped orders) c) → MayTurn (grouped orders) c
-may_turn orders c each member = let range = is_in-range 0 (grouped orders) c (rises_from-grouped [] orders refl each) member in record { low = range.0; high = range.1; member = member }
+same_script : (a b : Script) → a.shards ≡ b.shards → a.stores ≡ b.stores → a.commands ≡ b.commands → a.turns ≡ b.turns → a ≡ b
+same_script a b p q r s = λ i. record { shards = p i; stores = q i; commands = r i; turns = s i }
 
-may_be_turns : (orders : List (Client × Command)) (turns : List (List Client)) → All IsOrder orders → All (IsTurns orders) turns → All (MayBeTurns (grouped orders)) turns
-may_be_turns orders turns each each_turns = λ k d few. (let h = each_turns k d few in record { some = h.0; short = h.1; each = λ j e low. may_turn orders _ each (h.2 j e low) })
+-- the reading behind the orders
+abbrev middle : {bytes : List ℕ} {script : Script} → IsScript bytes script → Reading
+middle h = all_ordered (start h.counts) (orders_in h.orders)
 
-by_lines-form : (shards stores : ℕ) (orders : List (Client × Command)) (turns : List (List Client)) → IsCount shards → IsCount stores → All IsOrder orders → All (IsTurns orders) turns → length orders ≤ 65536 → lists_in orders ≤ 128 → length (flat turns) ≤ 1000000 →
-    by_lines (lines_of shards stores orders turns) true ≡ Ok (record { shards = shards; stores = stores; commands = grouped orders; turns = map ClientTurn (flat turns) })
-unfolding by_lines
-by_lines-form shards stores orders turns few_shards few_stores each each_turns few_orders few_lists few_turns =
-    rw (places_line-read shards stores few_shards few_stores)
-    (after_orders 2 (start shards stores) orders (map turns_text turns) _ each refl (omega arith) (omega arith) (λ n. behind n (all_ordered (start shards stores) orders) (all_ordered-script (start shards stores) orders)))
+turns-behind : (bytes : List ℕ) (script : Script) (h : IsScript bytes script) → IsTurned (middle h) h.turn_texts (flat h.listed)
+turns-behind bytes script h = turns-go (middle h) h.turn_texts h.listed each few
   where
-    behind : (n : ℕ) (r : Reading) → r.script ≡ record { shards = shards; stores = stores; commands = grouped orders; turns = [] } → after_lines n r (map turns_text turns) true ≡ Ok (record { shards = shards; stores = stores; commands = grouped orders; turns = map ClientTurn (flat turns) })
-    behind n r is =
-        let commands : r.script.commands ≡ grouped orders = ap (λ (s : Script). s.commands) is in
-        let turns_are : r.script.turns ≡ [] = ap (λ (s : Script). s.turns) is in
-        after_turns n r turns (rw commands (may_be_turns orders turns each each_turns)) (rw turns_are (omega (arith, few_turns))) ∙ ap (λ (s : Script). Ok (record { shards = s.shards; stores = s.stores; commands = s.commands; turns = s.turns ++ map ClientTurn (flat turns) })) is
+    commands : (middle h).script.commands ≡ grouped (orders_in h.orders)
+    commands = ap (λ (s : Script). s.commands) (all_ordered-script (start h.counts) (orders_in h.orders))
+
+    each : Each (MaySayTurns (middle h).script.commands) h.turn_texts h.listed
+    each = rw commands h.each_turns
+
+    few : (middle h).turns + turn_count (flat h.listed) ≤ 1000000
+    few = let none = all_ordered-turns (start h.counts) (orders_in h.orders) in let low = h.few_turns in omega (arith, none, low)
+
+form-goes : (bytes : List ℕ) (script : Script) (h : IsScript bytes script) → Goes None (h.heads ++ h.opening ∷ (h.order_texts ++ h.turn_texts)) (Some (turns-behind bytes script h).last)
+form-goes bytes script h =
+    Goes-append None h.heads (h.opening ∷ (h.order_texts ++ h.turn_texts)) None (Some (turns-behind bytes script h).last) (silent-goes None h.heads h.silent) (
+      Some (start h.counts),
+      places-text h.opening h.counts h.places,
+      Goes-append (Some (start h.counts)) h.order_texts h.turn_texts (Some (middle h)) (Some (turns-behind bytes script h).last)
+          (orders-go (start h.counts) h.order_texts h.orders h.each_order refl few rare) (turns-behind bytes script h).goes,
+    )
+  where
+    few : 0 + length (orders_in h.orders) ≤ 65536
+    few = let low = h.few_orders in omega (arith, low)
+
+    rare : 0 + lists_in (orders_in h.orders) ≤ 128
+    rare = let low = h.few_lists in omega (arith, low)
+
+form-script : (bytes : List ℕ) (script : Script) (h : IsScript bytes script) → (turns-behind bytes script h).last.script ≡ script
+form-script bytes script h = is ∙ same_script (holding (middle h).script (middle h).script.commands ((middle h).script.turns ++ client_turns (flat h.listed))) script shards stores commands turns
+  where
+    is : (turns-behind bytes script h).last.script ≡ holding (middle h).script (middle h).script.commands ((middle h).script.turns ++ client_turns (flat h.listed))
+    is = (turns-behind bytes script h).is
+
+    mid : (middle h).script ≡ holding (start h.counts).script (grouped (orders_in h.orders)) []
+    mid = all_ordered-script (start h.counts) (orders_in h.orders)
+
+    shards : (middle h).script.shards ≡ script.shards
+    shards = ap (λ (s : Script). s.shards) mid ∙ sym h.shards
+
+    stores : (middle h).script.stores ≡ script.stores
+    stores = ap (λ (s : Script). s.stores) mid ∙ sym h.stores
+
+    commands : (middle h).script.commands ≡ script.commands
+    commands = ap (λ (s : Script). s.commands) mid ∙ sym h.commands
+
+    turns : (middle h).script.turns ++ client_turns (flat h.listed) ≡ script.turns
+    turns = ap (λ (s : Script). s.turns ++ client_turns (flat h.listed)) mid ∙ sym h.turned
 
 pub script_of-form : (bytes : List ℕ) (script : Script) → IsScript bytes script → script_of bytes ≡ Ok script
 script_of-form bytes script h =
-    let text : bytes ≡ flat_map ended (lines_of script.shards script.stores h.orders h.turns) = h.text ∙ script_text-lines script.shards script.stores h.orders h.turns in
-    let few : length (flat_map ended (lines_of script.shards script.stores h.orders h.turns)) ≤ 4194304 = (let same = ap (λ (l : List ℕ). length l) text in omega (arith, h.few_bytes, same)) in
-    ap script_of text
-    ∙ script_of-lines (lines_of script.shards script.stores h.orders h.turns) (lines_of-lack script.shards script.stores h.orders h.turns h.each_order) few
-    ∙ by_lines-form script.shards script.stores h.orders h.turns h.shards h.stores h.each_order h.each_turns h.few_orders h.few_lists h.few_turns
-    ∙ rw (h.commands, h.turned) refl
+    script_of-goes bytes (Some (turns-behind bytes script h).last) h.few_bytes goes short ∙ ap (λ (s : Script). Ok s) (form-script bytes script h)
+  where
+    whole : texts_of (lines bytes) (rest_of_lines bytes) ≡ h.heads ++ h.opening ∷ (h.order_texts ++ h.turn_texts)
+    whole = sym (texts-are bytes) ∙ h.lines
+
+    goes : Goes None (texts_of (lines bytes) (rest_of_lines bytes)) (Some (turns-behind bytes script h).last)
+    goes = rw whole (form-goes bytes script h)
+
+    short : All IsShort (lines_of (lines bytes) (rest_of_lines bytes))
+    short = All-same IsShort (lines_of (lines bytes) (rest_of_lines bytes)) (all_lines bytes) (sym (all_lines-are bytes)) h.short_lines

@@ -2,8 +2,9 @@
 use Rattle.std.proofs.Common.{◌≡◌, ℕ, Bool, true, false, cond, List, [], ◌∷◌, ◌++◌, refl, ap, sym, ◌∙◌, append_assoc, append-nil, arith, eqb}
 use Rattle.std.specs.List.{slice_split, onto_first, flat_map}
 use Rattle.std.proofs.lemmas.Bool.Decides.{nat_tests}
-use Rattle.cfs_script.specs.Pieces.{pieces, all_but_last, last_of, lines, rest_of_lines}
-use Rattle.cfs_script.proofs.Cutting.{some_pieces}
+use Rattle.cfs_grammar.specs.Words.{pieces}
+use Rattle.cfs_script.specs.Pieces.{all_but_last, last_of, lines, rest_of_lines}
+use Rattle.cfs_grammar.proofs.Cutting.{some_pieces}
 
 -- the pieces with the byte between them
 abbrev pub joined : ℕ → List (List ℕ) → List ℕ

@@ -4,8 +4,9 @@ use Rattle.std.specs.List.{All, list_all, slice_split, onto_first}
 use Rattle.std.proofs.lemmas.Bool.Decides.{nat_tests}
 use Rattle.std.proofs.lemmas.List.Elements.{All-head, All-tail}
 use Rattle.std.proofs.lemmas.List.Sums.{AllPass-from_list_all}
+use Rattle.cfs_grammar.specs.Words.{pieces}
 use Rattle.cfs_script.specs.Breaks.{IsLine}
-use Rattle.cfs_script.specs.Pieces.{pieces, all_but_last, lines}
+use Rattle.cfs_script.specs.Pieces.{all_but_last, lines}
 use Rattle.cfs_script.proofs.Parts.{lacks}
 
 pub IsLine-lacks : (line : List ℕ) → IsLine line → lacks 10 line ≡ true
@@ -46,11 +47,3 @@ all_but_last-lack byte (p ∷ q ∷ ps) h = let rest : list_all (lacks byte) (q 
 pub lines-lack : (xs : List ℕ) → list_all (lacks 10) (lines xs) ≡ true
 unfolding lines pieces
 lines-lack xs = all_but_last-lack 10 (slice_split (λ b. eqb b 10) xs) (split-lack 10 xs)
-
-pub and-left : (a b : Bool) → (a && b) ≡ true → a ≡ true
-and-left true b h = refl
-and-left false b h = h
-
-pub and-right : (a b : Bool) → (a && b) ≡ true → b ≡ true
-and-right true b h = h
-and-right false b h = cc

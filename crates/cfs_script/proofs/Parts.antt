@@ -4,8 +4,9 @@ use Rattle.std.specs.List.{All, list_all, flat_map}
 use Rattle.std.proofs.lemmas.Bool.Decides.{nat_tests}
 use Rattle.std.proofs.lemmas.List.Splits.{slice_split_at, slice_split_none}
 use Rattle.std.proofs.lemmas.List.Sums.{AllPass-from_list_all}
-use Rattle.cfs_script.specs.Forms.{ended}
-use Rattle.cfs_script.specs.Pieces.{pieces, lines, rest_of_lines}
+use Rattle.cfs_grammar.specs.Words.{pieces}
+use Rattle.cfs_script.specs.Breaks.{ended}
+use Rattle.cfs_script.specs.Pieces.{lines, rest_of_lines}
 use Rattle.cfs_script.proofs.Cutting.{lines_some, rest_of_lines_some}
 use Rattle.cfs_script.proofs.Joined.{joined}
 

@@ -5,8 +5,9 @@ use Rattle.std.specs.List.{All}
 use Rattle.std.proofs.lemmas.List.Elements.{All-head, All-tail}
 use Rattle.std.proofs.lemmas.Bool.Decides.{nat_tests}
 use Rattle.cfs_ids.specs.declared.ids.Client.{Client}
-use Rattle.cfs_script.specs.declared.command.Command.{Command}
-use Rattle.cfs_script.specs.Forms.{grouped_from, IsOrder}
+use Rattle.cfs_walk.specs.declared.command.Command.{Command}
+use Rattle.cfs_grammar.specs.declared.order.Order.{Order}
+use Rattle.cfs_script.specs.Forms.{grouped_from}
 use Rattle.cfs_script.specs.Lists.{rises_from, is_in, with_command}
 
 pub rises_from-with_command : (low : ℕ) (lists : List (Client × List Command)) (c : Client) (x : Command) → low < c.0 → c.0 ≤ 32 → IsTrue (rises_from low lists) → IsTrue (rises_from low (with_command lists c x))
@@ -38,11 +39,15 @@ is_in-range low (l ∷ ls) c rises member = by_test (l.0.0 == c.0) refl member (
         let over = range.0 in
         (omega arith, range.1)
 
--- commands of clients from 1 to 32, put in one after another
-pub rises_from-grouped : (lists : List (Client × List Command)) (orders : List (Client × Command)) → IsTrue (rises_from 0 lists) → All IsOrder orders → IsTrue (rises_from 0 (grouped_from lists orders))
+-- the order is of a client from 1 to 32
+abbrev pub IsOfClient : Order → Type 0
+IsOfClient order = (0 < order.client.0) × (order.client.0 ≤ 32)
+
+-- orders of such clients, put in one after another
+pub rises_from-grouped : (lists : List (Client × List Command)) (orders : List Order) → IsTrue (rises_from 0 lists) → All IsOfClient orders → IsTrue (rises_from 0 (grouped_from lists orders))
 rises_from-grouped lists [] rises each = rises
 rises_from-grouped lists (o ∷ orders) rises each =
-    let h = All-head IsOrder o orders each in
-    rises_from-grouped (with_command lists o.0 o.1) orders (rises_from-with_command 0 lists o.0 o.1 h.0 h.1 rises) (All-tail IsOrder o orders each)
+    let h = All-head IsOfClient o orders each in
+    rises_from-grouped (with_command lists o.client o.command) orders (rises_from-with_command 0 lists o.client o.command h.0 h.1 rises) (All-tail IsOfClient o orders each)
 
 pub ruleset rising = (rises_from-with_command)

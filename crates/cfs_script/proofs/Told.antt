@@ -18,7 +18,7 @@ use Rattle.cfs_script.proofs.InForm.{script_of-in_form}
 
 pub Reads-from_bytes : (old new : Option (List ℕ)) (bytes : List ℕ) (result : Result Script ScriptRefusal) → ReadsWithin most_bytes old new bytes → Gives result (script_of bytes) → Reads old new result
 Reads-from_bytes old new bytes (Ok script) read said = record { bytes = bytes; read = read; said = said; form = script_of-accepted bytes script said }
-Reads-from_bytes old new bytes (Err (Bad line fault)) read said = record { bytes = bytes; read = read; said = said; breaks = script_of-breaks bytes line said }
+Reads-from_bytes old new bytes (Err (Bad line fault)) read said = record { bytes = bytes; read = read; said = said; breaks = script_of-breaks bytes line fault said }
 Reads-from_bytes old new bytes (Err ReadFault) read said = tt
 Reads-from_bytes old new bytes (Err NoMemory) read said = tt
 

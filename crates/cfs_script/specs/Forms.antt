@@ -1,95 +1,126 @@
--- The form of a script, said from the script to its bytes, with no reader.
-use Rattle.std.specs.Prelude.{◌≡◌, ℕ, ◌+◌, ◌/◌, ◌%◌, ◌<◌, ◌≤◌, nat_lt, false, if◌then◌else◌, List, [], ◌∷◌, ◌++◌, length, map, codes, IsTrue}
+-- The form of a script, said over all its lines, with no reader.
+use Rattle.std.specs.Prelude.{◌≡◌, ℕ, ◌+◌, ◌≤◌, true, false, if◌then◌else◌, List, [], ◌∷◌, ◌++◌, length, map, codes, Option, Some, None, Ok, IsTrue, ◌⊎◌}
 use Rattle.std.specs.List.{All, flat_map}
 use Rattle.cfs_ids.specs.declared.ids.Client.{Client}
-use Rattle.cfs_ids.specs.declared.ids.Actor.TheVariants.{Client as ClientTurn}
-use Rattle.cfs_ids.specs.Names.{is_name}
-use Rattle.cfs_script.specs.declared.command.Command.{Command}
-use Rattle.cfs_script.specs.declared.command.Command.TheVariants.{Create, Mkdir, Lookup, List as ListCommand}
+use Rattle.cfs_walk.specs.declared.command.Command.{Command}
+use Rattle.cfs_grammar.specs.declared.line.Counts.{Counts}
+use Rattle.cfs_grammar.specs.declared.order.Order.{Order}
+use Rattle.cfs_grammar.specs.declared.turns.ListedActor.{ListedActor}
+use Rattle.cfs_grammar.specs.declared.turns.ListedActor.TheVariants.{Client as ListedClient, Renamer, Collector}
+use Rattle.cfs_grammar.specs.declared.turns.ListedTurns.{ListedTurns}
+use Rattle.cfs_grammar.specs.Lines.{places_said}
+use Rattle.cfs_grammar.specs.Orders.{order_said}
+use Rattle.cfs_grammar.specs.Turns.{turns_said}
+use Rattle.cfs_grammar.specs.Words.{words, is_comment}
 use Rattle.cfs_script.specs.declared.script.Script.{Script}
-use Rattle.cfs_script.specs.Fields.{is_dots}
+use Rattle.cfs_script.specs.Built.{is_built}
 use Rattle.cfs_script.specs.Lists.{is_in, with_command}
-use Rattle.cfs_script.specs.Scripts.{is_list}
+use Rattle.cfs_script.specs.Pieces.{lines, rest_of_lines, without_return}
+use Rattle.cfs_script.specs.Scripts.{is_list, client_turns, turn_count}
 
--- a number below 100 in decimal digits, with no leading zero
-abbrev pub number_text : ℕ → List ℕ
-number_text n = if nat_lt n 10 then (48 + n) ∷ [] else (48 + n / 10) ∷ (48 + n % 10) ∷ []
+-- the lines that end with LF, and what stands behind them where it isn't empty
+abbrev pub with_rest : List (List ℕ) → List ℕ → List (List ℕ)
+with_rest lines [] = lines
+with_rest lines (b ∷ rest) = lines ++ (b ∷ rest) ∷ []
 
--- the first line: how many shards and stores there are
-abbrev pub places_text : ℕ → ℕ → List ℕ
-places_text shards stores = codes "places" ++ ((32 ∷ number_text shards) ++ (32 ∷ number_text stores))
+abbrev pub all_lines : List ℕ → List (List ℕ)
+all_lines bytes = with_rest (lines bytes) (rest_of_lines bytes)
 
--- a command's word and path
-abbrev pub command_text : Command → List ℕ
-command_text (Create name) = codes "create" ++ (32 ∷ 47 ∷ name)
-command_text (Mkdir name) = codes "mkdir" ++ (32 ∷ 47 ∷ name)
-command_text (Lookup name) = codes "lookup" ++ (32 ∷ 47 ∷ name)
-command_text ListCommand = codes "list" ++ (32 ∷ 47 ∷ [])
+-- their texts: a CR before an LF is no part of the text
+abbrev pub texts : List ℕ → List (List ℕ)
+texts bytes = with_rest (map without_return (lines bytes)) (rest_of_lines bytes)
 
--- the line of a client's command
-abbrev pub order_text : Client × Command → List ℕ
-order_text order = codes "client" ++ ((32 ∷ number_text order.0.0) ++ (32 ∷ command_text order.1))
+-- ---- what a line says. A comment, and a line without words, says nothing
+abbrev pub IsSilent : List ℕ → Type 0
+IsSilent text = (is_comment text ≡ true) ⊎ (words text ≡ [])
 
--- the line of some turns
-abbrev pub turns_text : List Client → List ℕ
-turns_text clients = codes "turns" ++ flat_map (λ client. 32 ∷ number_text client.0) clients
+-- the line has this first word, and these words behind it
+abbrev pub Has : List ℕ → List ℕ → List (List ℕ) → Type 0
+Has text first behind = (is_comment text ≡ false) × (words text ≡ first ∷ behind)
 
--- each line ends with LF
-abbrev pub ended : List ℕ → List ℕ
-ended line = line ++ 10 ∷ []
+pub record SaysPlaces (text : List ℕ) (counts : Counts) : Type 0 where
+  pub behind : List (List ℕ)
+  pub has : Has text (codes "places") behind
+  pub said : places_said behind ≡ Ok counts
 
--- the lines of the commands, and the lines of the turns
-abbrev pub lines_text : List (Client × Command) → List (List Client) → List ℕ
-lines_text orders turns = flat_map (λ order. ended (order_text order)) orders ++ flat_map (λ clients. ended (turns_text clients)) turns
+pub record SaysOrder (text : List ℕ) (order : Order) : Type 0 where
+  pub behind : List (List ℕ)
+  pub has : Has text (codes "client") behind
+  pub said : order_said behind ≡ Ok order
+  pub built : is_built order.command ≡ true
 
--- the first line, and those
-abbrev pub script_text : ℕ → ℕ → List (Client × Command) → List (List Client) → List ℕ
-script_text shards stores orders turns = ended (places_text shards stores) ++ lines_text orders turns
+-- the actor is a client that has commands
+abbrev pub IsListedIn : List (Client × List Command) → ListedActor → Type 0
+IsListedIn commands (ListedClient client) = IsTrue (is_in commands client)
+IsListedIn commands Renamer = ⊥
+IsListedIn commands Collector = ⊥
+
+-- turns of such clients
+pub record SaysTurns (commands : List (Client × List Command)) (text : List ℕ) (listed : List ListedTurns) : Type 0 where
+  pub behind : List (List ℕ)
+  pub has : Has text (codes "turns") behind
+  pub said : map turns_said behind ≡ map Some listed
+  pub clients : All (λ (turns : ListedTurns). IsListedIn commands turns.actor) listed
+
+abbrev pub MaySayOrder : List ℕ → Option Order → Type 0
+MaySayOrder text None = IsSilent text
+MaySayOrder text (Some order) = SaysOrder text order
+
+abbrev pub MaySayTurns : List (Client × List Command) → List ℕ → List ListedTurns → Type 0
+MaySayTurns commands text [] = IsSilent text
+MaySayTurns commands text (turns ∷ more) = SaysTurns commands text (turns ∷ more)
+
+-- one after the other, these texts say those
+abbrev pub Each : {A B : Type 0} → (A → B → Type 0) → List A → List B → Type 0
+Each P [] [] = Unit {0}
+Each P [] (y ∷ ys) = ⊥
+Each P (x ∷ xs) [] = ⊥
+Each P (x ∷ xs) (y ∷ ys) = P x y × Each P xs ys
+
+-- ---- the orders of all lines
+abbrev pub orders_in : List (Option Order) → List Order
+orders_in [] = []
+orders_in (None ∷ more) = orders_in more
+orders_in (Some order ∷ more) = order ∷ orders_in more
 
 -- each client's commands in the order of their lines, by rising clients
-abbrev pub grouped_from : List (Client × List Command) → List (Client × Command) → List (Client × List Command)
+abbrev pub grouped_from : List (Client × List Command) → List Order → List (Client × List Command)
 grouped_from lists [] = lists
-grouped_from lists (order ∷ orders) = grouped_from (with_command lists order.0 order.1) orders
+grouped_from lists (order ∷ orders) = grouped_from (with_command lists order.client order.command) orders
 
-abbrev pub grouped : List (Client × Command) → List (Client × List Command)
+abbrev pub grouped : List Order → List (Client × List Command)
 grouped orders = grouped_from [] orders
 
 -- how many of the commands list
-abbrev pub lists_in : List (Client × Command) → ℕ
+abbrev pub lists_in : List Order → ℕ
 lists_in [] = 0
-lists_in (order ∷ orders) = (if is_list order.1 then 1 else 0) + lists_in orders
-
--- the name may be that of a row
-abbrev pub IsNamed : Command → Type 0
-IsNamed (Create name) = IsTrue (is_name name) × (is_dots name ≡ false)
-IsNamed (Mkdir name) = IsTrue (is_name name) × (is_dots name ≡ false)
-IsNamed (Lookup name) = IsTrue (is_name name) × (is_dots name ≡ false)
-IsNamed ListCommand = Unit {0}
+lists_in (order ∷ orders) = (if is_list order.command then 1 else 0) + lists_in orders
 
 -- 1 to 64 shards or stores
 abbrev pub IsCount : ℕ → Type 0
 IsCount n = (1 ≤ n) × (n ≤ 64)
 
--- a client from 1 to 32, and its command
-abbrev pub IsOrder : Client × Command → Type 0
-IsOrder order = (0 < order.0.0) × (order.0.0 ≤ 32) × IsNamed order.1
-
--- a line of turns: one or more, of clients that have commands, in 4,096 bytes
-abbrev pub IsTurns : List (Client × Command) → List Client → Type 0
-IsTurns orders clients = (0 < length clients) × (length (turns_text clients) ≤ 4096) × All (λ client. IsTrue (is_in (grouped orders) client)) clients
-
--- the bytes are the text of the script's places and of these commands and turns, within the limits, and the script has them
+-- The bytes are a script's. Lines that say nothing come first, then `places`, then orders, then turns, and lines that
+-- say nothing between them; all within the limits.
 pub record IsScript (bytes : List ℕ) (script : Script) : Type 0 where
-  pub orders : List (Client × Command)
-  pub turns : List (List Client)
-  pub text : bytes ≡ script_text script.shards script.stores orders turns
-  pub each_order : All IsOrder orders
-  pub each_turns : All (IsTurns orders) turns
+  pub heads : List (List ℕ)
+  pub opening : List ℕ
+  pub counts : Counts
+  pub order_texts : List (List ℕ)
+  pub orders : List (Option Order)
+  pub turn_texts : List (List ℕ)
+  pub listed : List (List ListedTurns)
+  pub lines : texts bytes ≡ heads ++ opening ∷ (order_texts ++ turn_texts)
+  pub silent : All IsSilent heads
+  pub places : SaysPlaces opening counts
+  pub each_order : Each MaySayOrder order_texts orders
+  pub each_turns : Each (MaySayTurns (grouped (orders_in orders))) turn_texts listed
   pub few_bytes : length bytes ≤ 4194304
-  pub few_orders : length orders ≤ 65536
-  pub few_lists : lists_in orders ≤ 128
-  pub few_turns : length (flat_map (λ clients. clients) turns) ≤ 1000000
-  pub shards : IsCount script.shards
-  pub stores : IsCount script.stores
-  pub commands : script.commands ≡ grouped orders
-  pub turned : script.turns ≡ map ClientTurn (flat_map (λ clients. clients) turns)
+  pub short_lines : All (λ line. length line ≤ 4096) (all_lines bytes)
+  pub few_orders : length (orders_in orders) ≤ 65536
+  pub few_lists : lists_in (orders_in orders) ≤ 128
+  pub few_turns : turn_count (flat_map (λ turns. turns) listed) ≤ 1000000
+  pub shards : script.shards ≡ counts.shards
+  pub stores : script.stores ≡ counts.stores
+  pub commands : script.commands ≡ grouped (orders_in orders)
+  pub turned : script.turns ≡ client_turns (flat_map (λ turns. turns) listed)

@@ -1,6 +1,6 @@
 pub mod Breaks
+pub mod Built
 pub mod Calls
-pub mod Fields
 pub mod Forms
 pub mod Lists
 pub mod Outcomes

@@ -1,23 +1,34 @@
 -- What the reading of a script says of its source and of the script.
-use Rattle.std.specs.Prelude.{◌≡◌, ℕ, ◌≤◌, Bool, List, length, IsTrue, Result, Ok, Err}
+use Rattle.std.specs.Prelude.{◌≡◌, ℕ, ◌≤◌, Bool, List, IsTrue, Result, Ok, Err}
 use Rattle.std.specs.List.{list_all}
 use Rattle.std.specs.declared.option.Option.{Option}
 use Rattle.cfs_io.specs.Input.{ReadsWithin}
 use Rattle.cfs_ids.specs.declared.ids.Client.{Client}
 use Rattle.cfs_ids.specs.declared.ids.Actor.{Actor}
 use Rattle.cfs_ids.specs.declared.ids.Actor.TheVariants.{Client as ClientTurn}
-use Rattle.cfs_script.specs.declared.command.Command.{Command}
+use Rattle.cfs_walk.specs.declared.command.Command.{Command}
+use Rattle.cfs_grammar.specs.declared.fault.Fault.{Fault}
+use Rattle.cfs_grammar.specs.declared.fault.Refusal.{Refusal}
+use Rattle.cfs_grammar.specs.declared.fault.Refusal.TheVariants.{Fault as LineFault, NoMemory as LineNoMemory}
 use Rattle.cfs_script.specs.declared.script.Script.{Script}
 use Rattle.cfs_script.specs.declared.script.ScriptRefusal.{ScriptRefusal}
 use Rattle.cfs_script.specs.declared.script.ScriptRefusal.TheVariants.{ReadFault, Bad, NoMemory}
 use Rattle.cfs_script.specs.Breaks.{Breaks}
+use Rattle.cfs_script.specs.Built.{is_built}
 use Rattle.cfs_script.specs.Forms.{IsCount, IsScript}
-use Rattle.cfs_script.specs.Lists.{rises_from, is_in}
+use Rattle.cfs_script.specs.Lists.{rises_from, is_in, count_in}
 use Rattle.cfs_script.specs.Scripts.{script_of, most_bytes}
 
 -- the turn is of a client that has commands
 abbrev pub is_turn_of : List (Client × List Command) → Actor → Bool
 is_turn_of lists (ClientTurn client) = is_in lists client
+
+abbrev pub are_turns_of : List (Client × List Command) → Actor × ℕ → Bool
+are_turns_of lists listed = is_turn_of lists listed.0
+
+-- all commands of the client are built
+abbrev pub are_built : Client × List Command → Bool
+are_built list = list_all is_built list.1
 
 -- what holds of each script that is read
 pub record IsInForm (script : Script) : Type 0 where
@@ -25,9 +36,10 @@ pub record IsInForm (script : Script) : Type 0 where
   pub stores : IsCount script.stores
   -- the clients rise strictly, from 1 to 32
   pub rising : IsTrue (rises_from 0 script.commands)
+  pub built : IsTrue (list_all are_built script.commands)
   -- each turn is of a client that has commands
-  pub members : IsTrue (list_all (is_turn_of script.commands) script.turns)
-  pub few : length script.turns ≤ 1000000
+  pub members : IsTrue (list_all (are_turns_of script.commands) script.turns)
+  pub few : count_in script.turns ≤ 1000000
 
 -- the bytes read are those of the script, and in the form
 pub record HasRead (old new : Option (List ℕ)) (script : Script) : Type 0 where
@@ -36,30 +48,35 @@ pub record HasRead (old new : Option (List ℕ)) (script : Script) : Type 0 wher
   pub said : script_of bytes ≡ Ok script
   pub form : IsScript bytes script
 
--- the bytes read break the form first at this line
-pub record HasRefused (old new : Option (List ℕ)) (line : ℕ) : Type 0 where
+-- the bytes read break the form first at this line, whose first fault is this one
+pub record HasRefused (old new : Option (List ℕ)) (line : ℕ) (fault : Fault) : Type 0 where
   pub bytes : List ℕ
   pub read : ReadsWithin most_bytes old new bytes
-  pub said : script_of bytes ≡ Err line
+  pub said : script_of bytes ≡ Err (line, fault)
   pub breaks : Breaks bytes line
 
 -- what was read of the source, whatever it told
 abbrev pub Reads : Option (List ℕ) → Option (List ℕ) → Result Script ScriptRefusal → Type 0
 Reads old new (Ok script) = HasRead old new script
-Reads old new (Err (Bad line fault)) = HasRefused old new line
+Reads old new (Err (Bad line fault)) = HasRefused old new line fault
 Reads old new (Err ReadFault) = Unit {0}
 Reads old new (Err NoMemory) = Unit {0}
 
 -- what bytes at hand give, unless memory runs out
-abbrev pub Gives : Result Script ScriptRefusal → Result Script ℕ → Type 0
+abbrev pub Gives : Result Script ScriptRefusal → Result Script (ℕ × Fault) → Type 0
 Gives (Ok script) said = said ≡ Ok script
-Gives (Err (Bad line fault)) said = said ≡ Err line
+Gives (Err (Bad line fault)) said = said ≡ Err (line, fault)
 Gives (Err ReadFault) said = ⊥
 Gives (Err NoMemory) said = Unit {0}
 
 -- what a source that tells its bytes gives, unless it fails or memory runs out
-abbrev pub Answers : Result Script ScriptRefusal → Result Script ℕ → Type 0
+abbrev pub Answers : Result Script ScriptRefusal → Result Script (ℕ × Fault) → Type 0
 Answers (Ok script) said = said ≡ Ok script
-Answers (Err (Bad line fault)) said = said ≡ Err line
+Answers (Err (Bad line fault)) said = said ≡ Err (line, fault)
 Answers (Err ReadFault) said = Unit {0}
 Answers (Err NoMemory) said = Unit {0}
+
+-- the refusal of a line
+abbrev pub refusal_of : ℕ → Refusal → ScriptRefusal
+refusal_of line (LineFault fault) = Bad line fault
+refusal_of line LineNoMemory = NoMemory

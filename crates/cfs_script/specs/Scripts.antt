@@ -1,114 +1,180 @@
--- The script that bytes say, or the number of the first line that breaks the form.
-use Rattle.std.specs.Prelude.{ℕ, ◌+◌, ◌==◌, nat_le, nat_lt, Bool, true, false, not, ◌&&◌, ◌||◌, if◌then◌else◌, List, [], ◌∷◌, ◌++◌, length, take, codes, Option, Some, None, option_and_then, Result, Ok, Err}
-use Rattle.std.specs.Str.{bytes_eq}
-use Rattle.cfs_ids.specs.declared.ids.Client.{Client}
+-- The script that bytes say, or the number of the first line that has a fault, with the first of its faults.
+use Rattle.std.specs.Prelude.{ℕ, ◌+◌, ◌==◌, nat_le, nat_lt, Bool, true, false, ◌||◌, if◌then◌else◌, List, [], ◌∷◌, ◌++◌, length, take, Option, Some, None, Result, Ok, Err}
+use Rattle.std.specs.List.{list_all}
+use Rattle.cfs_ids.specs.declared.ids.Actor.{Actor}
 use Rattle.cfs_ids.specs.declared.ids.Actor.TheVariants.{Client as ClientTurn}
-use Rattle.cfs_script.specs.declared.command.Command.{Command}
-use Rattle.cfs_script.specs.declared.command.Command.TheVariants.{Create, Mkdir, Lookup, List as ListCommand}
-use Rattle.cfs_script.specs.declared.script.Script.{Script}
+use Rattle.cfs_walk.specs.declared.command.Command.{Command}
+use Rattle.cfs_walk.specs.declared.command.Command.TheVariants.{List as ListCommand}
+use Rattle.cfs_grammar.specs.declared.fault.Fault.{Fault}
+use Rattle.cfs_grammar.specs.declared.fault.Fault.TheVariants.{NoPlaces, BadNumber, BadCommand, TooMany, LineTooLong, LateLine, NotBuilt}
+use Rattle.cfs_grammar.specs.declared.line.Counts.{Counts}
+use Rattle.cfs_grammar.specs.declared.line.LineKind.{LineKind}
+use Rattle.cfs_grammar.specs.declared.line.LineKind.TheVariants.{Places, Client as ClientLine, Stop as StopLine, Turns as TurnsLine}
+use Rattle.cfs_grammar.specs.declared.line.Stop.{Stop}
+use Rattle.cfs_grammar.specs.declared.order.Order.{Order}
+use Rattle.cfs_grammar.specs.declared.turns.ListedActor.{ListedActor}
+use Rattle.cfs_grammar.specs.declared.turns.ListedActor.TheVariants.{Client as ListedClient, Renamer, Collector}
+use Rattle.cfs_grammar.specs.declared.turns.ListedTurns.{ListedTurns}
+use Rattle.cfs_grammar.specs.Lines.{kind_of, places_said, stop_said}
+use Rattle.cfs_grammar.specs.Orders.{order_said}
+use Rattle.cfs_grammar.specs.Turns.{turns_said}
+use Rattle.cfs_grammar.specs.Words.{words, is_comment}
 use Rattle.cfs_script.specs.declared.reading.Reading.{Reading}
-use Rattle.cfs_script.specs.Fields.{client_of, count_of, command_of}
+use Rattle.cfs_script.specs.declared.script.Script.{Script}
+use Rattle.cfs_script.specs.Built.{is_built}
 use Rattle.cfs_script.specs.Lists.{is_in, with_command}
-use Rattle.cfs_script.specs.Pieces.{pieces, lines, rest_of_lines}
+use Rattle.cfs_script.specs.Pieces.{lines, rest_of_lines, without_return}
 
--- the reading, where its line fits
-abbrev pub kept : Bool → Reading → Option Reading
-kept true r = Some r
-kept false r = None
+-- what follows, where the words are good
+abbrev pub and_then : {A B : Type 0} → (A → Result B Fault) → Result A Fault → Result B Fault
+and_then next (Ok x) = next x
+and_then next (Err fault) = Err fault
 
 abbrev pub is_list : Command → Bool
-is_list ListCommand = true
-is_list (Create name) = false
-is_list (Mkdir name) = false
-is_list (Lookup name) = false
+is_list (ListCommand path) = true
+is_list command = false
 
--- nothing was read but the first line
-abbrev pub start : ℕ → ℕ → Reading
-start shards stores = record { script = record { shards = shards; stores = stores; commands = []; turns = [] }; commands = 0; lists = 0 }
+-- nothing was read but the first line that counts
+abbrev pub start : Counts → Reading
+start counts = record { script = record { shards = counts.shards; stores = counts.stores; commands = []; turns = [] }; commands = 0; lists = 0; turns = 0 }
 
--- what the counts of the first line open
-unfoldable pub with_counts : Option ℕ → Option ℕ → Option Reading
-with_counts None stores = None
-with_counts (Some shards) None = None
-with_counts (Some shards) (Some stores) = Some (start shards stores)
-
--- the fields of the first line
-unfoldable pub places_line : List (List ℕ) → Option Reading
-places_line (word ∷ shards ∷ stores ∷ []) = if bytes_eq word (codes "places") then with_counts (count_of shards) (count_of stores) else None
-places_line fields = None
-
--- the script with one more command
-abbrev pub ordered : Reading → Client → Command → Reading
-ordered r client command = record {
-  script = record { shards = r.script.shards; stores = r.script.stores; commands = with_command r.script.commands client command; turns = r.script.turns };
+-- ---- `client` lines: 65,536 commands at most, and 128 that list
+abbrev pub ordered : Reading → Order → Reading
+ordered r order = record {
+  script = record { shards = r.script.shards; stores = r.script.stores; commands = with_command r.script.commands order.client order.command; turns = r.script.turns };
   commands = r.commands + 1;
-  lists = if is_list command then r.lists + 1 else r.lists;
+  lists = if is_list order.command then r.lists + 1 else r.lists;
+  turns = r.turns;
 }
 
--- one more command: before the turns, 65,536 at most, and 128 that list
-unfoldable pub with_order : Reading → Option Client → Option Command → Option Reading
-with_order r None command = None
-with_order r (Some client) None = None
-with_order r (Some client) (Some command) =
-    if length r.script.turns == 0 && nat_lt r.commands 65536 && (not (is_list command) || nat_lt r.lists 128)
-    then Some (ordered r client command) else None
+unfoldable pub with_order : Reading → Order → Result Reading Fault
+with_order r order =
+    if nat_le 65536 r.commands || (if is_list order.command then nat_le 128 r.lists else false) then Err TooMany
+    else (if is_built order.command then Ok (ordered r order) else Err NotBuilt)
 
--- the fields behind `client`
-unfoldable pub client_line : Reading → List (List ℕ) → Option Reading
-client_line r (client ∷ word ∷ path ∷ []) = with_order r (client_of client) (command_of word path)
-client_line r fields = None
+unfoldable pub client_line : Reading → List (List ℕ) → Result Reading Fault
+client_line r words = and_then (with_order r) (order_said words)
 
--- the script with one more turn
-abbrev pub turned : Reading → Client → Reading
-turned r client = record {
-  script = record { shards = r.script.shards; stores = r.script.stores; commands = r.script.commands; turns = r.script.turns ++ ClientTurn client ∷ [] };
+-- ---- `stop` lines: of a client that has commands. No stop is built, so a second one of a client isn't met
+abbrev pub with_stop : Reading → Stop → Result Reading Fault
+with_stop r stop = if is_in r.script.commands stop.client then Err NotBuilt else Err BadNumber
+
+unfoldable pub stop_line : Reading → List (List ℕ) → Result Reading Fault
+stop_line r words = and_then (with_stop r) (stop_said words)
+
+-- ---- `turns` lines: 1,000,000 turns at most, each of a client that has commands, of the Renamer or the collector
+abbrev pub is_known : Reading → ListedActor → Bool
+is_known r (ListedClient client) = is_in r.script.commands client
+is_known r Renamer = true
+is_known r Collector = true
+
+abbrev pub known : Reading → Option ListedTurns → Option ListedTurns
+known r None = None
+known r (Some turns) = if is_known r turns.actor then Some turns else None
+
+abbrev pub onto : Option ListedTurns → Option (List ListedTurns) → Option (List ListedTurns)
+onto None more = None
+onto (Some turns) None = None
+onto (Some turns) (Some more) = Some (turns ∷ more)
+
+-- what the words list, where each of them is good
+abbrev pub all_listed : Reading → List (List ℕ) → Option (List ListedTurns)
+all_listed r [] = Some []
+all_listed r (word ∷ words) = onto (known r (turns_said word)) (all_listed r words)
+
+-- how many turns these are
+abbrev pub turn_count : List ListedTurns → ℕ
+turn_count [] = 0
+turn_count (turns ∷ more) = turns.count + turn_count more
+
+abbrev pub is_client : ListedActor → Bool
+is_client (ListedClient client) = true
+is_client Renamer = false
+is_client Collector = false
+
+abbrev pub turns_of : ListedActor → ℕ → List (Actor × ℕ)
+turns_of (ListedClient client) count = (ClientTurn client, count) ∷ []
+turns_of Renamer count = []
+turns_of Collector count = []
+
+-- the turns of the clients among these
+abbrev pub client_turns : List ListedTurns → List (Actor × ℕ)
+client_turns [] = []
+client_turns (turns ∷ more) = turns_of turns.actor turns.count ++ client_turns more
+
+abbrev pub turned : Reading → List ListedTurns → Reading
+turned r listed = record {
+  script = record { shards = r.script.shards; stores = r.script.stores; commands = r.script.commands; turns = r.script.turns ++ client_turns listed };
   commands = r.commands;
   lists = r.lists;
+  turns = r.turns + turn_count listed;
 }
 
--- one more turn: of a client that has commands, and 1,000,000 at most
-unfoldable pub with_turn : Reading → Option Client → Option Reading
-with_turn r None = None
-with_turn r (Some client) =
-    if is_in r.script.commands client && nat_lt (length r.script.turns) 1000000 then Some (turned r client) else None
+abbrev pub with_turns : Reading → Option (List ListedTurns) → Result Reading Fault
+with_turns r None = Err BadNumber
+with_turns r (Some listed) =
+    if nat_lt 1000000 (r.turns + turn_count listed) then Err TooMany
+    else (if list_all (λ turns. is_client turns.actor) listed then Ok (turned r listed) else Err NotBuilt)
 
-unfoldable pub with_turns : Reading → List (List ℕ) → Option Reading
-with_turns r [] = Some r
-with_turns r (word ∷ words) = option_and_then (λ s. with_turns s words) (with_turn r (client_of word))
+unfoldable pub turns_line : Reading → List (List ℕ) → Result Reading Fault
+turns_line r [] = Err BadCommand
+turns_line r (word ∷ words) = with_turns r (all_listed r (word ∷ words))
 
--- the fields behind `turns`, one or more
-unfoldable pub turns_line : Reading → List (List ℕ) → Option Reading
-turns_line r [] = None
-turns_line r (word ∷ words) = with_turns r (word ∷ words)
+-- ---- a line, by its first word and the words behind it. Nothing is read before `places`
+abbrev pub before_turns : Reading → Result Reading Fault → Result Reading Fault
+before_turns r said = if length r.script.turns == 0 then said else Err LateLine
 
--- a line by its fields
-unfoldable pub by_fields : Reading → List (List ℕ) → Option Reading
-by_fields r [] = None
-by_fields r (first ∷ fields) =
-    if bytes_eq first (codes "client") then client_line r fields
-    else (if bytes_eq first (codes "turns") then turns_line r fields else None)
+abbrev pub by_kind : Option Reading → LineKind → List (List ℕ) → Result Reading Fault
+by_kind None Places words = and_then (λ counts. Ok (start counts)) (places_said words)
+by_kind None ClientLine words = Err NoPlaces
+by_kind None StopLine words = Err NoPlaces
+by_kind None TurnsLine words = Err NoPlaces
+by_kind (Some r) Places words = Err LateLine
+by_kind (Some r) ClientLine words = before_turns r (client_line r words)
+by_kind (Some r) StopLine words = before_turns r (stop_line r words)
+by_kind (Some r) TurnsLine words = turns_line r words
 
--- what a line makes of the reading so far: single spaces stand between its fields
-unfoldable pub with_line : Reading → List ℕ → Option Reading
-with_line r line = if nat_le (length line) 4096 then by_fields r (pieces 32 line) else None
+abbrev pub in_kind : Option Reading → Option LineKind → List (List ℕ) → Result (Option Reading) Fault
+in_kind s None words = Err BadCommand
+in_kind s (Some kind) words = and_then (λ r. Ok (Some r)) (by_kind s kind words)
 
-abbrev pub or_line : {A B : Type 0} → Option A → ℕ → (A → Result B ℕ) → Result B ℕ
-or_line None line next = Err line
-or_line (Some x) line next = next x
+-- a line without words says nothing
+abbrev pub by_words : Option Reading → List (List ℕ) → Result (Option Reading) Fault
+by_words s [] = Ok s
+by_words s (first ∷ words) = in_kind s (kind_of first) words
 
--- the lines from this number on, and whether all is well behind the last of them
-unfoldable pub after_lines : ℕ → Reading → List (List ℕ) → Bool → Result Script ℕ
-after_lines number r [] ends = if ends then Ok r.script else Err number
-after_lines number r (line ∷ more) ends = or_line (with_line r line) number (λ s. after_lines (number + 1) s more ends)
+-- and neither does a comment
+unfoldable pub with_text : Option Reading → List ℕ → Result (Option Reading) Fault
+with_text s text = if is_comment text then Ok s else by_words s (words text)
 
-unfoldable pub by_lines : List (List ℕ) → Bool → Result Script ℕ
-by_lines [] ends = Err 1
-by_lines (first ∷ more) ends = or_line (places_line (pieces 32 first)) 1 (λ r. after_lines 2 r more ends)
+-- a line of 4,096 bytes at most
+unfoldable pub with_line : Option Reading → List ℕ → (text : List ℕ) → Result (Option Reading) Fault
+with_line s line text = if nat_lt 4096 (length line) then Err LineTooLong else with_text s text
+
+-- ---- all lines
+abbrev pub or_fault : {A B : Type 0} → ℕ → (A → Result B (ℕ × Fault)) → Result A Fault → Result B (ℕ × Fault)
+or_fault number next (Ok x) = next x
+or_fault number next (Err fault) = Err (number, fault)
+
+-- the script, once all lines are read
+abbrev pub ended : ℕ → Option Reading → Result Script (ℕ × Fault)
+ended number None = Err (number, NoPlaces)
+ended number (Some r) = Ok r.script
+
+-- what stands behind the last LF: a line, where it isn't empty
+abbrev pub last_line : ℕ → Option Reading → List ℕ → Result Script (ℕ × Fault)
+last_line number s [] = ended number s
+last_line number s (b ∷ rest) = or_fault number (ended (number + 1)) (with_line s (b ∷ rest) (b ∷ rest))
+
+-- the lines from this number on; a CR before an LF is no part of a line's text. In the line that begins behind them the
+-- limit on bytes is passed, where `within` is false
+unfoldable pub after_lines : ℕ → Option Reading → List (List ℕ) → (rest : List ℕ) → (within : Bool) → Result Script (ℕ × Fault)
+after_lines number s [] rest within = if within then last_line number s rest else Err (number, TooMany)
+after_lines number s (line ∷ more) rest within = or_fault number (λ next. after_lines (number + 1) next more rest within) (with_line s line (without_return line))
 
 -- the greatest number of bytes
 unfoldable pub most_bytes : ℕ
 most_bytes = 4194304
 
--- the lines within the limit on bytes; the line that passes it breaks the form
-unfoldable pub script_of : List ℕ → Result Script ℕ
-script_of bytes = let text = take most_bytes bytes in by_lines (lines text) (length (rest_of_lines text) == 0 && nat_le (length bytes) most_bytes)
+unfoldable pub script_of : List ℕ → Result Script (ℕ × Fault)
+script_of bytes = let text = take most_bytes bytes in after_lines 1 None (lines text) (rest_of_lines text) (nat_le (length bytes) most_bytes)

@@ -1,23 +1,8 @@
-//! Cutting bytes at a byte.
-ghost use Rattle.std.specs.Prelude.{◌≡◌, ◌==◌, ◌<◌, ◌∷◌, [], length, position, IfSome, IfNone};
-ghost use Rattle.cfs_script.specs.Pieces.{pieces, lines, rest_of_lines};
+//! Lines cut off at LF.
+ghost use Rattle.std.specs.Prelude.{◌≡◌, ◌<◌, ◌∷◌, [], length, IfSome, IfNone};
+ghost use Rattle.cfs_script.specs.Pieces.{lines, rest_of_lines, without_return};
 
-fn place_of(text: &[u8], byte: u8) -> Option<usize>
-    ensures { result ≡ position (λ b. b == byte) text.now }
-{
-    text.iter().position(|b| *b == byte)
-}
-
-/// What stands before and after the first such byte.
-#[tactic(auto, using(crate::proofs::Cutting::cutting))]
-pub fn cut_at(text: &[u8], byte: u8) -> Option<(&[u8], &[u8])>
-    ensures found { IfSome result (λ parts. pieces byte text.now ≡ parts.0.now ∷ pieces byte parts.1.now) }
-    ensures shorter { IfSome result (λ parts. length parts.1.now < length text.now) }
-    ensures none { IfNone result (pieces byte text.now ≡ text.now ∷ []) }
-{
-    let at = place_of(text, byte)?;
-    Some((&text[..at], &text[at + 1..]))
-}
+use cfs_grammar::cut_at;
 
 /// The first line without its LF, and what stands behind it.
 #[tactic(auto, using(crate::proofs::Cutting::cutting))]
@@ -29,4 +14,15 @@ pub fn cut_line(text: &[u8]) -> Option<(&[u8], &[u8])>
     ensures no_line { IfNone result (rest_of_lines text.now ≡ text.now) }
 {
     cut_at(text, b'\n')
+}
+
+/// The line without the CR at its end, where it has one.
+#[tactic(auto, using(crate::proofs::Cutting::returning))]
+pub fn text_of(line: &[u8]) -> &[u8]
+    ensures { result.now ≡ without_return line.now }
+{
+    let Some((last, text)) = line.split_last() else {
+        return line;
+    };
+    if *last == b'\r' { text } else { line }
 }

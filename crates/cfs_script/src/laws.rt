@@ -1,7 +1,7 @@
-//! The laws of the form: what reading says of each text.
-ghost use Rattle.std.specs.Prelude.{◌≡◌, ◌↔◌, ℕ, List, Ok, Err};
+//! What the form and the reader's lines have to do with each other.
+ghost use Rattle.std.specs.Prelude.{◌≡◌, ◌↔◌, ℕ, List, Ok};
 ghost use Rattle.cfs_script.specs.declared.script.Script.{Script};
-ghost use Rattle.cfs_script.specs.Breaks.{Breaks};
+ghost use Rattle.cfs_script.specs.Breaks.{Breaks, IsRefusedAt};
 ghost use Rattle.cfs_script.specs.Forms.{IsScript};
 ghost use Rattle.cfs_script.specs.Scripts.{script_of};
 
@@ -12,5 +12,5 @@ pub fn form_is_read()
 
 /// Bytes are refused at a line just where it is the first that breaks the form.
 pub fn first_break_is_told()
-    ensures { (bytes : List ℕ) (line : ℕ) → (script_of bytes ≡ Err line) ↔ Breaks bytes line }
+    ensures { (bytes : List ℕ) (line : ℕ) → IsRefusedAt line (script_of bytes) ↔ Breaks bytes line }
 {}

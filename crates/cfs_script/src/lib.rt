@@ -1,11 +1,11 @@
 //! The script of a run, read from the lines of its input.
 #![tactic(auto)]
 
-mod command;
+mod built;
 mod cut;
-mod fields;
 mod laws;
 mod lines;
+mod listed;
 mod lists;
 mod read;
 mod reading;
@@ -14,9 +14,10 @@ mod script;
 mod tests;
 mod turns;
 
-pub use command::{Command, CommandList};
+pub use cfs_grammar::Fault;
+pub use cfs_walk::{Command, CommandList};
 pub use laws::{first_break_is_told, form_is_read};
 pub use lists::CommandLists;
 pub use read::read_script;
-pub use script::{Fault, Script, ScriptRefusal};
+pub use script::{Script, ScriptRefusal};
 pub use turns::TurnList;

@@ -1,18 +1,23 @@
-//! Reading a script line by line.
-ghost use Rattle.std.specs.Prelude.{◌≡◌, ◌==◌, ◌&&◌, length, IfOk};
-ghost use Rattle.cfs_script.specs.Pieces.{pieces, lines, rest_of_lines};
-ghost use Rattle.cfs_script.specs.Fields.{client_of, count_of, command_of};
-ghost use Rattle.cfs_script.specs.Scripts.{kept, is_list, start, with_order, client_line, with_turn, with_turns, turns_line, with_counts, places_line, by_fields, with_line, after_lines, by_lines};
-ghost use Rattle.cfs_script.specs.Outcomes.{Gives};
+//! The lines of a script.
+ghost use Rattle.std.specs.Prelude.{◌≡◌, ◌≤◌, ◌<◌, ◌^◌, None};
+ghost use Rattle.cfs_grammar.specs.Outcomes.{Gives as GivesLine};
+ghost use Rattle.cfs_grammar.specs.Words.{words};
+ghost use Rattle.cfs_script.specs.Pieces.{lines, rest_of_lines, without_return};
+ghost use Rattle.cfs_script.specs.Scripts.{is_list, start, with_order, client_line, stop_line, by_kind, with_text, with_line, ended, last_line, after_lines};
+ghost use Rattle.cfs_script.specs.Outcomes.{Gives, refusal_of};
 
-use crate::command::Command;
-use crate::cut::{cut_at, cut_line};
-use crate::fields::{client_at, command, count_at};
+use crate::built::built;
+use crate::cut::{cut_line, text_of};
+use crate::listed::with_turns_line;
 use crate::lists::CommandLists;
 use crate::reading::Reading;
-use crate::script::{Fault, Script, ScriptRefusal};
+use crate::script::{Script, ScriptRefusal};
 use crate::turns::TurnList;
-use cfs_ids::{Actor, NoMemory};
+use cfs_grammar::{
+    Counts, Fault, LineKind, Order, Refusal, cut_word, is_comment, read_kind, read_order,
+    read_places, read_stop,
+};
+use cfs_walk::Command;
 use std::alloc::Global;
 
 const MOST_LINE_BYTES: usize = 4096;
@@ -21,206 +26,204 @@ const MOST_COMMANDS: usize = 65_536;
 
 const MOST_LISTS: usize = 128;
 
-const MOST_TURNS: usize = 1_000_000;
-
-// Each of these answers false where the line breaks the form; the reading is given up then.
+// Each of these takes the reading so far, which is given up at a fault.
 
 fn lists(command: &Command) -> bool
     ensures { result ≡ is_list command.now }
 {
-    matches!(command, Command::List)
+    matches!(command, Command::List(_))
 }
 
 #[tactic(auto, unfolding(crate::specs::Scripts::with_order))]
-fn add_order(
-    alloc: Global,
-    reading: &mut Reading,
-    word: &[u8],
-    name: &[u8],
-    path: &[u8],
-) -> Result<bool, NoMemory>
-    ensures { IfOk result (λ fits. with_order reading.old (client_of word.now) (command_of name.now path.now) ≡ kept fits reading.new) }
+fn with_one_order(alloc: Global, mut reading: Reading, order: Order) -> Result<Reading, Refusal>
+    requires low { 0 < order.client.0 }
+    requires high { order.client.0 ≤ 32 }
+    ensures { GivesLine result (with_order reading order) }
 {
-    let Some(client) = client_at(word) else {
-        return Ok(false);
-    };
-    let Some(command) = command(alloc, name, path)? else {
-        return Ok(false);
-    };
-    if reading.script.turns.len() > 0 || reading.commands >= MOST_COMMANDS {
-        return Ok(false);
+    let lists = lists(&order.command);
+    if reading.commands >= MOST_COMMANDS || (lists && reading.lists >= MOST_LISTS) {
+        return Err(Refusal::Fault(Fault::TooMany));
     }
-    if lists(&command) {
-        if reading.lists >= MOST_LISTS {
-            return Ok(false);
-        }
+    if !built(&order.command) {
+        return Err(Refusal::Fault(Fault::NotBuilt));
+    }
+    if lists {
         reading.lists += 1;
     }
     reading.commands += 1;
-    reading.script.commands.add(alloc, client, command)?;
-    Ok(true)
+    reading
+        .script
+        .commands
+        .add(alloc, order.client, order.command)?;
+    Ok(reading)
 }
 
-#[tactic(auto, using(crate::proofs::Cutting::client_line_long), unfolding(crate::specs::Scripts::client_line))]
-fn add_client_line(alloc: Global, reading: &mut Reading, fields: &[u8]) -> Result<bool, NoMemory>
-    ensures { IfOk result (λ fits. client_line reading.old (pieces 32 fields.now) ≡ kept fits reading.new) }
+#[tactic(auto, unfolding(crate::specs::Scripts::client_line))]
+fn with_client_line(alloc: Global, reading: Reading, text: &[u8]) -> Result<Reading, Refusal>
+    ensures { GivesLine result (client_line reading (words text.now)) }
 {
-    let Some((word, rest)) = cut_at(fields, b' ') else {
-        return Ok(false);
-    };
-    let Some((name, path)) = cut_at(rest, b' ') else {
-        return Ok(false);
-    };
-    if let Some((_, _)) = cut_at(path, b' ') {
-        return Ok(false);
-    }
-    add_order(alloc, reading, word, name, path)
+    let order = read_order(alloc, text)?;
+    with_one_order(alloc, reading, order)
 }
 
-#[tactic(auto, unfolding(crate::specs::Scripts::with_turn))]
-fn add_turn(reading: &mut Reading, word: &[u8]) -> Result<bool, NoMemory>
-    ensures { IfOk result (λ fits. with_turn reading.old (client_of word.now) ≡ kept fits reading.new) }
+#[tactic(auto, unfolding(crate::specs::Scripts::stop_line))]
+fn with_stop_line(reading: Reading, text: &[u8]) -> Result<Reading, Refusal>
+    ensures { GivesLine result (stop_line reading (words text.now)) }
 {
-    let Some(client) = client_at(word) else {
-        return Ok(false);
-    };
-    if !reading.script.commands.has(client) || reading.script.turns.len() >= MOST_TURNS {
-        return Ok(false);
-    }
-    match reading.script.turns.push(Actor::Client(client)) {
-        Ok(()) => Ok(true),
-        Err(_) => Err(NoMemory),
-    }
-}
-
-#[tactic(auto, using(crate::proofs::Cutting::turns_line_is), unfolding(crate::specs::Scripts::with_turns))]
-fn add_turns(reading: &mut Reading, fields: &[u8]) -> Result<bool, NoMemory>
-    ensures { IfOk result (λ fits. turns_line reading.old (pieces 32 fields.now) ≡ kept fits reading.new) }
-{
-    let mut rest = fields;
-    while let Some((word, more)) = cut_at(rest, b' ') {
-        if !add_turn(reading, word)? {
-            return Ok(false);
+    match read_stop(text) {
+        Ok(stop) => {
+            if reading.script.commands.has(stop.client) {
+                Err(Refusal::Fault(Fault::NotBuilt))
+            } else {
+                Err(Refusal::Fault(Fault::BadNumber))
+            }
         }
-        rest = more;
-    }
-    add_turn(reading, rest)
-}
-
-#[tactic(auto, unfolding(crate::specs::Scripts::by_fields, crate::specs::Scripts::client_line, crate::specs::Scripts::turns_line))]
-fn add_fields(alloc: Global, reading: &mut Reading, line: &[u8]) -> Result<bool, NoMemory>
-    ensures { IfOk result (λ fits. by_fields reading.old (pieces 32 line.now) ≡ kept fits reading.new) }
-{
-    let Some((first, fields)) = cut_at(line, b' ') else {
-        return Ok(false);
-    };
-    if first == b"client".as_slice() {
-        add_client_line(alloc, reading, fields)
-    } else if first == b"turns".as_slice() {
-        add_turns(reading, fields)
-    } else {
-        Ok(false)
+        Err(fault) => Err(Refusal::Fault(fault)),
     }
 }
 
-#[tactic(auto, unfolding(crate::specs::Scripts::with_line))]
-fn add_line(alloc: Global, reading: &mut Reading, line: &[u8]) -> Result<bool, NoMemory>
-    ensures { IfOk result (λ fits. with_line reading.old line.now ≡ kept fits reading.new) }
-{
-    if line.len() > MOST_LINE_BYTES {
-        return Ok(false);
-    }
-    add_fields(alloc, reading, line)
-}
-
-fn bad(line: u64) -> ScriptRefusal
-    ensures { result ≡ ScriptRefusal.Bad line Fault.NotBuilt }
-{
-    ScriptRefusal::Bad {
-        line,
-        fault: Fault::NotBuilt,
-    }
-}
-
-fn opening(alloc: Global, shards: u32, stores: u32) -> Reading
-    ensures { result ≡ start shards stores }
+fn opening(alloc: Global, counts: Counts) -> Reading
+    ensures { result ≡ start counts }
 {
     Reading {
         script: Script {
-            shards,
-            stores,
+            shards: counts.shards,
+            stores: counts.stores,
             commands: CommandLists::new(alloc),
             turns: TurnList::new(alloc),
         },
         commands: 0,
         lists: 0,
+        turns: 0,
     }
 }
 
-#[tactic(auto, unfolding(crate::specs::Scripts::with_counts))]
-fn counted(alloc: Global, shards: &[u8], stores: &[u8]) -> Option<Reading>
-    ensures { result ≡ with_counts (count_of shards.now) (count_of stores.now) }
-{
-    let shards = count_at(shards)?;
-    let stores = count_at(stores)?;
-    Some(opening(alloc, shards, stores))
-}
-
-// The reading behind the first line.
-#[tactic(auto, using(crate::proofs::Cutting::places_line_long), unfolding(crate::specs::Scripts::places_line))]
-fn opened(alloc: Global, line: &[u8]) -> Option<Reading>
-    ensures { result ≡ places_line (pieces 32 line.now) }
-{
-    let (word, counts) = cut_at(line, b' ')?;
-    let (shards, stores) = cut_at(counts, b' ')?;
-    if let Some((_, _)) = cut_at(stores, b' ') {
-        return None;
-    }
-    if word == b"places".as_slice() {
-        counted(alloc, shards, stores)
-    } else {
-        None
-    }
-}
-
-#[tactic(auto, unfolding(crate::specs::Scripts::after_lines))]
-fn read_lines(
+// The reading with a line of this kind, whose words behind the first these are.
+fn with_kind(
     alloc: Global,
-    first: Reading,
+    state: Option<Reading>,
+    kind: LineKind,
     text: &[u8],
-    within: bool,
-) -> Result<Script, ScriptRefusal>
-    ensures { Gives result (after_lines 2 first (lines text.now) (length (rest_of_lines text.now) == 0 && within)) }
+) -> Result<Reading, Refusal>
+    ensures { GivesLine result (by_kind state kind (words text.now)) }
 {
-    let mut reading = first;
-    let mut number = 2;
-    let mut rest = text;
-    while let Some((line, more)) = cut_line(rest) {
-        match add_line(alloc, &mut reading, line) {
-            Ok(true) => {}
-            Ok(false) => return Err(bad(number)),
-            Err(NoMemory) => return Err(ScriptRefusal::NoMemory),
+    let Some(reading) = state else {
+        if kind != LineKind::Places {
+            return Err(Refusal::Fault(Fault::NoPlaces));
         }
-        rest = more;
-        number += 1;
+        return match read_places(text) {
+            Ok(counts) => Ok(opening(alloc, counts)),
+            Err(fault) => Err(Refusal::Fault(fault)),
+        };
+    };
+    let late = reading.script.turns.len() > 0;
+    match kind {
+        LineKind::Turns => with_turns_line(alloc, reading, text),
+        LineKind::Client if !late => with_client_line(alloc, reading, text),
+        LineKind::Stop if !late => with_stop_line(reading, text),
+        _ => Err(Refusal::Fault(Fault::LateLine)),
     }
-    if rest.is_empty() && within {
-        Ok(reading.script)
-    } else {
-        Err(bad(number))
+}
+
+// The reading with a line of this text.
+#[tactic(auto, unfolding(crate::specs::Scripts::with_text))]
+fn with_one_text(
+    alloc: Global,
+    state: Option<Reading>,
+    text: &[u8],
+) -> Result<Option<Reading>, Refusal>
+    ensures { GivesLine result (with_text state text.now) }
+{
+    if is_comment(text) {
+        return Ok(state);
+    }
+    let Some((first, rest)) = cut_word(text) else {
+        return Ok(state);
+    };
+    let Some(kind) = read_kind(first) else {
+        return Err(Refusal::Fault(Fault::BadCommand));
+    };
+    Ok(Some(with_kind(alloc, state, kind, rest)?))
+}
+
+// The reading with this line, which has this text.
+#[tactic(auto, unfolding(crate::specs::Scripts::with_line))]
+fn with_one_line(
+    alloc: Global,
+    state: Option<Reading>,
+    line: &[u8],
+    text: &[u8],
+) -> Result<Option<Reading>, Refusal>
+    ensures { GivesLine result (with_line state line.now text.now) }
+{
+    if line.len() > MOST_LINE_BYTES {
+        return Err(Refusal::Fault(Fault::LineTooLong));
+    }
+    with_one_text(alloc, state, text)
+}
+
+// The refusal of this line.
+fn refused(line: u64, refusal: Refusal) -> ScriptRefusal
+    ensures { result ≡ refusal_of line refusal }
+{
+    match refusal {
+        Refusal::Fault(fault) => ScriptRefusal::Bad { line, fault },
+        Refusal::NoMemory => ScriptRefusal::NoMemory,
+    }
+}
+
+fn finished(number: u64, state: Option<Reading>) -> Result<Script, ScriptRefusal>
+    ensures { Gives result (ended number state) }
+{
+    match state {
+        Some(reading) => Ok(reading.script),
+        None => Err(ScriptRefusal::Bad {
+            line: number,
+            fault: Fault::NoPlaces,
+        }),
+    }
+}
+
+// What stands behind the last LF.
+fn with_last_line(
+    alloc: Global,
+    number: u64,
+    state: Option<Reading>,
+    rest: &[u8],
+) -> Result<Script, ScriptRefusal>
+    requires { number ≤ 2 ^ 63 }
+    ensures { Gives result (last_line number state rest.now) }
+{
+    if rest.is_empty() {
+        return finished(number, state);
+    }
+    match with_one_line(alloc, state, rest, rest) {
+        Ok(next) => finished(number + 1, next),
+        Err(refusal) => Err(refused(number, refusal)),
     }
 }
 
 // The script of the lines of a text. The text is all of the input where it is `within` the limit.
-#[tactic(auto, unfolding(crate::specs::Scripts::by_lines))]
+#[tactic(auto, unfolding(crate::specs::Scripts::after_lines))]
 pub fn read_text(alloc: Global, text: &[u8], within: bool) -> Result<Script, ScriptRefusal>
-    ensures { Gives result (by_lines (lines text.now) (length (rest_of_lines text.now) == 0 && within)) }
+    ensures { Gives result (after_lines 1 None (lines text.now) (rest_of_lines text.now) within) }
 {
-    let Some((line, rest)) = cut_line(text) else {
-        return Err(bad(1));
-    };
-    match opened(alloc, line) {
-        Some(reading) => read_lines(alloc, reading, rest, within),
-        None => Err(bad(1)),
+    let mut state = None;
+    let mut number = 1;
+    let mut rest = text;
+    while let Some((line, more)) = cut_line(rest) {
+        state = match with_one_line(alloc, state, line, text_of(line)) {
+            Ok(next) => next,
+            Err(refusal) => return Err(refused(number, refusal)),
+        };
+        rest = more;
+        number += 1;
     }
+    if !within {
+        return Err(ScriptRefusal::Bad {
+            line: number,
+            fault: Fault::TooMany,
+        });
+    }
+    with_last_line(alloc, number, state, rest)
 }

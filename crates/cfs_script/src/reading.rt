@@ -1,11 +1,12 @@
-//! What was read so far.
+//! A script that is being read.
 
 use crate::script::Script;
 
-// The script of the lines so far, and how many commands they have, and how many of these list.
+// The script of the lines so far, how many commands they have, how many of these list, and how many turns there are.
 #[derive(Debug, Drop)]
 pub struct Reading {
     pub script: Script,
     pub commands: usize,
     pub lists: usize,
+    pub turns: u64,
 }

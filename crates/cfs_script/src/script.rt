@@ -2,6 +2,7 @@
 
 use crate::lists::CommandLists;
 use crate::turns::TurnList;
+use cfs_grammar::Fault;
 
 /// What a run is given: how many places of each kind there are, the commands of each client, and whose turn it is.
 #[derive(Debug, Drop)]
@@ -14,19 +15,12 @@ pub struct Script {
     pub turns: TurnList,
 }
 
-/// What is wrong with a line.
-#[derive(Clone, Copy, Debug, PartialEq, Eq)]
-pub enum Fault {
-    /// The line breaks the form that is read, or passes one of its limits.
-    NotBuilt,
-}
-
 /// Why there is no script.
 #[derive(Clone, Copy, Debug, PartialEq, Eq)]
 pub enum ScriptRefusal {
     /// The source failed.
     ReadFault,
-    /// The first line that breaks the form, counted from 1.
+    /// The first line that has a fault, counted from 1, and the first of its faults.
     Bad { line: u64, fault: Fault },
     /// No memory was left.
     NoMemory,

@@ -6,17 +6,17 @@ use cfs_ids::Actor;
 use std::alloc::Global;
 use std::marker::Model;
 
-/// Who takes each turn, in order.
+/// Who takes the turns, in order, and how many each takes in a row.
 #[derive(Debug, Drop)]
 pub struct TurnList {
-    turns: Vec<Actor>,
+    turns: Vec<(Actor, u32)>,
 }
 
 impl Model for TurnList {
-    ghost use Rattle.std.specs.Prelude.{List};
+    ghost use Rattle.std.specs.Prelude.{List, ℕ};
     ghost use Rattle.cfs_ids.specs.declared.ids.Actor.{Actor};
 
-    ghost Value = { List Actor };
+    ghost Value = { List (Actor × ℕ) };
 
     ghost view = { λ list. list.turns.items };
 }
@@ -31,34 +31,34 @@ impl TurnList {
         }
     }
 
-    /// How many turns there are.
+    /// How many items there are.
     pub fn len(&self) -> usize
         ensures { result ≡ length self.now }
     {
         self.turns.len()
     }
 
-    /// Who takes the turn at the index. None comes exactly at and past the length.
-    pub fn get(&self, i: usize) -> Option<&Actor>
+    /// The item at the index. None comes exactly at and past the length.
+    pub fn get(&self, i: usize) -> Option<&(Actor, u32)>
         ensures { option_copied result ≡ slice_get self.now i }
     {
         self.turns.get(i)
     }
 
-    /// The turns.
-    pub fn as_slice(&self) -> &[Actor]
+    /// The items.
+    pub fn as_slice(&self) -> &[(Actor, u32)]
         ensures { result.now ≡ self.now }
     {
         self.turns.as_slice()
     }
 
-    /// Adds a turn behind the others. The Err is want of memory, and hands the turn back.
-    pub fn push(&mut self, turn: Actor) -> Result<(), Actor>
-        ensures ok { OnOk result (self.new ≡ self.old ++ turn ∷ []) }
+    /// Adds an item behind the others. The Err is want of memory, and hands the item back.
+    pub fn push(&mut self, turns: (Actor, u32)) -> Result<(), (Actor, u32)>
+        ensures ok { OnOk result (self.new ≡ self.old ++ turns ∷ []) }
         ensures err { OnErr result (self.new ≡ self.old) }
-        ensures back { IfErr result (λ back. back ≡ turn) }
+        ensures back { IfErr result (λ back. back ≡ turns) }
     {
-        match self.turns.push(turn) {
+        match self.turns.push(turns) {
             Ok(()) => Ok(()),
             Err(failed) => Err(failed.value),
         }

@@ -13,8 +13,8 @@ carried : {A E : Type 0} (r : Result A E) (x : A) (P : A → Type 0) → IfOk r 
 carried (Ok y) x P is p = subst P (sym is) p
 carried (Err e) x P is p = _
 
-pub returns : goal.returns
-returns c = carried c.of.result (history_of (reverse c.args.run.now.entries) c.args.run.now.calls.items)
+pub returns-clause-judged : goal.returns-clause-judged
+returns-clause-judged c = carried c.items_of.result (history_of (reverse c.args.run.now.entries) c.args.run.now.calls.items)
     (λ items. (setup : Setup) → IsSetup setup → (turns members : List ℕ) → IsRising members → HasCallers setup.calls members → IsRunOf members (played setup turns) c.args.run.now → IsJudged members (played setup turns) items)
-    (rw c.as_slice.ensures.value at c.of.ensures)
+    c.items_of.ensures
     (λ setup good turns members rising callers of_world. of-run setup good turns members rising callers c.args.run.now of_world)

@@ -1,62 +1,96 @@
-use Rattle.std.proofs.Common.{◌≡◌, ap, sym, ◌∙◌, arith, get_or, ◌<◌, length, Ok, inl, inr, subst}
+use Rattle.std.proofs.Common.{◌≡◌, ◌≤◌, ℕ, List, ◌+◌, ap, sym, ◌∙◌, arith, get_or, ◌<◌, length, map, take, drop, Ok, subst}
+use Rattle.std.specs.Prelude.{IsTrue, replicate}
+use Rattle.std.proofs.lemmas.List.{take_all}
+use Rattle.cfs_ids.specs.declared.ids.Actor.{Actor}
 use Rattle.cfs_ids.specs.declared.ids.Actor.TheVariants.{Client as ClientTurn}
-use Rattle.cfs_rules.specs.Worlds.{turn}
+use Rattle.cfs_rules.specs.Worlds.{Counts, run_of}
+use Rattle.cfs_script.specs.Lists.{turns_in}
 use Rattle.cfs_core.specs.Clients.{number_in}
-use Rattle.cfs_core.specs.declared.turned.Turned.TheVariants.{Idle, Stepped}
 use Rattle.cfs_core.specs.Cores.{counts_of, world_of, members_of}
-use Rattle.cfs_law_tree.specs.Drives.{is_turn_of, StopsFull}
-use Rattle.cfs_law_tree.proofs.Runs.{true-at, is-member, run-more, stops, stops-full, same-place, idle-turn, counts-at, attributes-at}
+use Rattle.cfs_law_tree.proofs.Rows.{count_in-more, count_in-take, count_in-with, full-within, run-more-rows, stops-within, turns_in-at}
+use Rattle.cfs_core.proofs.Commands.{true-at}
+use Rattle.cfs_law_tree.specs.Drives.{are_turns_of, is_turn_of, StopsFull, StopsIn}
+use Rattle.cfs_law_tree.proofs.Runs.{counts-at, attributes-at, same-place}
 use Rattle.cfs_law_tree.proofs.turns.drive.Goals as goal
 
-pub turn-requires : goal.turn-requires
-turn-requires c = is-member c.loop-actor.core.clients.items (members_of c.args.core.now) _ c.loop-actor.invariant.members
-    (true-at (is_turn_of (members_of c.args.core.now)) c.as_slice-actor-items.result.now c.loop-actor.actor-index (ClientTurn (record { 0 = 0 })) (omega (arith, c.loop-actor-test.true)) (rw (sym c.as_slice-actor-items.ensures) at c.requires))
+abbrev none : Actor × ℕ
+none = (ClientTurn (record { 0 = 0 }), 0)
 
-pub returns-in_err-turn-clause-stopped : goal.returns-in_err-turn-clause-stopped
-returns-in_err-turn-clause-stopped c = λ n. stops (counts_of c.args.core.now) c.args.turns.now c.loop-actor.actor-index (world_of c.args.core.now) (world_of c.turn.new.self) (rw c.as_slice-actor-items.ensures at c.loop-actor-test.true) (c.in_err-turn.ensures.same (λ e. cc) ∙ c.loop-actor.invariant.so_far)
+pub repeat-requires : goal.repeat-requires
+repeat-requires c = subst (λ (ms : List ℕ). IsTrue (is_turn_of ms (get_or c.as_slice-listed-items.result.now c.loop-listed.listed-index none).0)) (sym c.loop-listed.invariant.members)
+    (true-at (are_turns_of (members_of c.args.core.now)) c.as_slice-listed-items.result.now c.loop-listed.listed-index none (omega (arith, c.loop-listed-test.true)) (rw (sym c.as_slice-listed-items.ensures) at c.requires))
 
-pub returns-in_err-turn-clause-counts : goal.returns-in_err-turn-clause-counts
-returns-in_err-turn-clause-counts c = λ setup before is n. counts-at setup before c.args.core.now is c.args.turns.now n
+pub returns-in_err-repeat-clause-stopped : goal.returns-in_err-repeat-clause-stopped
+returns-in_err-repeat-clause-stopped c = λ n.
+    let within : c.loop-listed.listed-index < length c.args.turns.now = rw c.as_slice-listed-items.ensures at c.loop-listed-test.true in
+    stops-within (counts_of c.args.core.now) (turns_in c.args.turns.now) (turns_in (take c.loop-listed.listed-index c.args.turns.now)) (replicate (get_or c.args.turns.now c.loop-listed.listed-index none).1 (get_or c.args.turns.now c.loop-listed.listed-index none).0) (turns_in (drop (c.loop-listed.listed-index + 1) c.args.turns.now)) (world_of c.args.core.now) (world_of c.loop-listed.core) (world_of c.repeat.new.core)
+    (turns_in-at c.args.turns.now c.loop-listed.listed-index none within) c.loop-listed.invariant.so_far
+    (subst (λ (k : Counts). StopsIn k (map number_in (replicate (get_or c.args.turns.now c.loop-listed.listed-index none).1 (get_or c.args.turns.now c.loop-listed.listed-index none).0)) (world_of c.loop-listed.core) (world_of c.repeat.new.core)) c.loop-listed.invariant.places (rw c.as_slice-listed-items.ensures at (c.in_err-repeat.ensures.stopped (λ e. cc))))
 
-pub returns-in_err-turn-clause-attributes : goal.returns-in_err-turn-clause-attributes
-returns-in_err-turn-clause-attributes c = λ setup before is n. attributes-at setup before c.args.core.now is c.args.turns.now n
+pub returns-in_err-repeat-clause-counts : goal.returns-in_err-repeat-clause-counts
+returns-in_err-repeat-clause-counts c = λ setup before is n. counts-at setup before c.args.core.now is (turns_in c.args.turns.now) n
+
+pub returns-in_err-repeat-clause-attributes : goal.returns-in_err-repeat-clause-attributes
+returns-in_err-repeat-clause-attributes c = λ setup before is n. attributes-at setup before c.args.core.now is (turns_in c.args.turns.now) n
 
 pub returns-in-Full-clause-stopped : goal.returns-in-Full-clause-stopped
-returns-in-Full-clause-stopped c = λ n. stops (counts_of c.args.core.now) c.args.turns.now c.loop-actor.actor-index (world_of c.args.core.now) (world_of c.turn.new.self) (rw c.as_slice-actor-items.ensures at c.loop-actor-test.true) (c.in_ok-turn.ensures.same (λ e. cc) ∙ c.loop-actor.invariant.so_far)
+returns-in-Full-clause-stopped c = λ n.
+    let within : c.loop-listed.listed-index < length c.args.turns.now = rw c.as_slice-listed-items.ensures at c.loop-listed-test.true in
+    stops-within (counts_of c.args.core.now) (turns_in c.args.turns.now) (turns_in (take c.loop-listed.listed-index c.args.turns.now)) (replicate (get_or c.args.turns.now c.loop-listed.listed-index none).1 (get_or c.args.turns.now c.loop-listed.listed-index none).0) (turns_in (drop (c.loop-listed.listed-index + 1) c.args.turns.now)) (world_of c.args.core.now) (world_of c.loop-listed.core) (world_of c.repeat.new.core)
+    (turns_in-at c.args.turns.now c.loop-listed.listed-index none within) c.loop-listed.invariant.so_far
+    (subst (λ (k : Counts). StopsIn k (map number_in (replicate (get_or c.args.turns.now c.loop-listed.listed-index none).1 (get_or c.args.turns.now c.loop-listed.listed-index none).0)) (world_of c.loop-listed.core) (world_of c.repeat.new.core)) c.loop-listed.invariant.places (rw c.as_slice-listed-items.ensures at (c.in_ok-repeat.ensures.stopped (λ e. cc))))
 
 pub returns-in-Full-clause-full : goal.returns-in-Full-clause-full
 returns-in-Full-clause-full c = λ place e.
-    let within : c.loop-actor.actor-index < length c.args.turns.now = rw c.as_slice-actor-items.ensures at c.loop-actor-test.true in
-    let asks = rw c.as_slice-actor-items.ensures at (c.in_ok-turn.ensures.full c.in-Full.place (ap Ok c.in-Full.is)) in
-    subst (StopsFull (counts_of c.args.core.now) c.args.turns.now (world_of c.args.core.now) c.turn.new.self) (same-place c.in-Full.place place e)
-    (stops-full (counts_of c.args.core.now) c.args.turns.now c.loop-actor.actor-index (ClientTurn (record { 0 = 0 })) (world_of c.args.core.now) c.loop-actor.core c.turn.new.self c.in-Full.place within
-    (c.in_ok-turn.ensures.same (λ e. cc) ∙ c.loop-actor.invariant.so_far) (c.in_ok-turn.ensures.same (λ e. cc)) (c.in_ok-turn.ensures.same_held (λ e. cc)) c.in_ok-turn.ensures.counts asks)
+    let within : c.loop-listed.listed-index < length c.args.turns.now = rw c.as_slice-listed-items.ensures at c.loop-listed-test.true in
+    full-within (counts_of c.args.core.now) (turns_in c.args.turns.now) (turns_in (take c.loop-listed.listed-index c.args.turns.now)) (replicate (get_or c.args.turns.now c.loop-listed.listed-index none).1 (get_or c.args.turns.now c.loop-listed.listed-index none).0) (turns_in (drop (c.loop-listed.listed-index + 1) c.args.turns.now)) (world_of c.args.core.now) (world_of c.loop-listed.core) c.repeat.new.core place
+    (turns_in-at c.args.turns.now c.loop-listed.listed-index none within) c.loop-listed.invariant.so_far
+    (subst (λ (k : Counts). StopsFull k (replicate (get_or c.args.turns.now c.loop-listed.listed-index none).1 (get_or c.args.turns.now c.loop-listed.listed-index none).0) (world_of c.loop-listed.core) c.repeat.new.core place) c.loop-listed.invariant.places (rw c.as_slice-listed-items.ensures at (c.in_ok-repeat.ensures.full place (ap Ok c.in-Full.is ∙ e))))
 
 pub returns-in-Full-clause-counts : goal.returns-in-Full-clause-counts
-returns-in-Full-clause-counts c = λ setup before is n. counts-at setup before c.args.core.now is c.args.turns.now n
+returns-in-Full-clause-counts c = λ setup before is n. counts-at setup before c.args.core.now is (turns_in c.args.turns.now) n
 
 pub returns-in-Full-clause-attributes : goal.returns-in-Full-clause-attributes
-returns-in-Full-clause-attributes c = λ setup before is n. attributes-at setup before c.args.core.now is c.args.turns.now n
+returns-in-Full-clause-attributes c = λ setup before is n. attributes-at setup before c.args.core.now is (turns_in c.args.turns.now) n
 
-pub loop-actor-preserved : goal.loop-actor-preserved
-loop-actor-preserved c =
-    let actor = get_or c.args.turns.now c.loop-actor.actor-index (ClientTurn (record { 0 = 0 })) in
-    let within : c.loop-actor.actor-index < length c.args.turns.now = rw c.as_slice-actor-items.ensures at c.loop-actor-test.true in
+pub loop-listed-preserved : goal.loop-listed-preserved
+loop-listed-preserved c =
+    let within : c.loop-listed.listed-index < length c.args.turns.now = rw c.as_slice-listed-items.ensures at c.loop-listed-test.true in
+    let more = count_in-more c.args.turns.now c.loop-listed.listed-index none within in
     record {
-      so_far = (elim c.in-Stepped.is [
-        | inl e ↦ rw c.as_slice-actor-items.ensures at (c.turn.ensures.stepped (c.in_ok-turn.was ∙ ap Ok e))
-        | inr e ↦ c.turn.ensures.same (rw (c.in_ok-turn.was ∙ ap Ok e) (λ (no : Ok Idle ≡ Ok Stepped). cc)) ∙ sym (idle-turn (counts_of c.loop-actor.core) (world_of c.loop-actor.core) _ (rw c.as_slice-actor-items.ensures at (c.turn.ensures.idle.0 (c.in_ok-turn.was ∙ ap Ok e))))
-      ]) ∙ (λ j. turn (c.loop-actor.invariant.places j) (c.loop-actor.invariant.so_far j) (number_in actor)) ∙ sym (run-more (counts_of c.args.core.now) c.args.turns.now c.loop-actor.actor-index (ClientTurn (record { 0 = 0 })) (world_of c.args.core.now) within);
-      steps = elim c.in-Stepped.is [
-        | inl e ↦ omega (arith, c.turn.ensures.steps (c.in_ok-turn.was ∙ ap Ok e), c.loop-actor.invariant.steps)
-        | inr e ↦ omega (arith, c.turn.ensures.same_steps (rw (c.in_ok-turn.was ∙ ap Ok e) (λ (no : Ok Idle ≡ Ok Stepped). cc)), c.loop-actor.invariant.steps)
-      ];
-      members = c.turn.ensures.members ∙ c.loop-actor.invariant.members;
-      places = c.turn.ensures.counts ∙ c.loop-actor.invariant.places;
+      so_far = rw c.as_slice-listed-items.ensures at (c.in_ok-repeat.ensures.done (ap Ok c.in-Done.is))
+          ∙ (λ j. run_of (c.loop-listed.invariant.places j) (map number_in (replicate (get_or c.args.turns.now c.loop-listed.listed-index none).1 (get_or c.args.turns.now c.loop-listed.listed-index none).0)) (c.loop-listed.invariant.so_far j))
+          ∙ sym (run-more-rows (counts_of c.args.core.now) c.args.turns.now c.loop-listed.listed-index none (world_of c.args.core.now) within);
+      steps = omega (arith, more, rw c.as_slice-listed-items.ensures at c.repeat.ensures.steps, c.loop-listed.invariant.steps);
+      members = c.repeat.ensures.members ∙ c.loop-listed.invariant.members;
+      places = c.repeat.ensures.places ∙ c.loop-listed.invariant.places;
     }
 
 pub returns-clause-counts : goal.returns-clause-counts
-returns-clause-counts c = λ setup before is n. counts-at setup before c.args.core.now is c.args.turns.now n
+returns-clause-counts c = λ setup before is n. counts-at setup before c.args.core.now is (turns_in c.args.turns.now) n
 
 pub returns-clause-attributes : goal.returns-clause-attributes
-returns-clause-attributes c = λ setup before is n. attributes-at setup before c.args.core.now is c.args.turns.now n
+returns-clause-attributes c = λ setup before is n. attributes-at setup before c.args.core.now is (turns_in c.args.turns.now) n
+
+pub returns-in_err-repeat-clause-steps : goal.returns-in_err-repeat-clause-steps
+returns-in_err-repeat-clause-steps c =
+    let within : c.loop-listed.listed-index < length c.args.turns.now = rw c.as_slice-listed-items.ensures at c.loop-listed-test.true in
+    let all = count_in-with c.args.turns.now c.loop-listed.listed-index none within in
+    omega (arith, all, rw c.as_slice-listed-items.ensures at c.repeat.ensures.steps, c.loop-listed.invariant.steps)
+
+pub returns-in-Full-clause-steps : goal.returns-in-Full-clause-steps
+returns-in-Full-clause-steps c =
+    let within : c.loop-listed.listed-index < length c.args.turns.now = rw c.as_slice-listed-items.ensures at c.loop-listed-test.true in
+    let all = count_in-with c.args.turns.now c.loop-listed.listed-index none within in
+    omega (arith, all, rw c.as_slice-listed-items.ensures at c.repeat.ensures.steps, c.loop-listed.invariant.steps)
+
+pub returns-clause-steps : goal.returns-clause-steps
+returns-clause-steps c = let all = count_in-take c.args.turns.now c.loop-listed.listed-index in omega (arith, all, c.loop-listed.invariant.steps)
+
+pub returns-in-Full-clause-many : goal.returns-in-Full-clause-many
+returns-in-Full-clause-many c = λ place e. c.in_ok-repeat.ensures.many place (ap Ok c.in-Full.is ∙ e)
+
+pub returns-clause-done : goal.returns-clause-done
+returns-clause-done c = λ e.
+    let past : length c.args.turns.now ≤ c.loop-listed.listed-index = rw c.as_slice-listed-items.ensures at c.loop-listed-test.false in
+    c.loop-listed.invariant.so_far ∙ ap (λ (ts : List (Actor × ℕ)). run_of (counts_of c.args.core.now) (map number_in (turns_in ts)) (world_of c.args.core.now)) (take_all c.loop-listed.listed-index c.args.turns.now past)

@@ -23,9 +23,9 @@ invariant_of-result c =
         service = c.in_ok-new.ensures.service;
         counted = subst (λ (o : List PlaceNo). IsCounted (reverse o) (held c.in_ok-new.field-0) (progress_in c.in_ok-clients.clients.items)) (sym c.new-2.ensures.items)
             (opens-counted c.in_ok-clients.clients.items c.args.script.now.commands (held c.in_ok-new.field-0) c.in_ok-new.ensures.held starts);
-        sized = subst AreCounts counts c.requires;
+        sized = subst AreCounts counts c.requires.counts;
         alike = subst (λ (k : Counts). list_all (works_with k) c.in_ok-clients.clients.items ≡ true) counts c.in_ok-clients.ensures.alike;
-        there = λ n. subst (λ (k : Counts). progress_there k (progress_in c.in_ok-clients.clients.items n) ≡ true) counts (opens-there (record { shards = c.args.script.now.shards; stores = c.args.script.now.stores }) c.requires c.in_ok-clients.clients.items c.args.script.now.commands starts n);
+        there = λ n. subst (λ (k : Counts). progress_there k (progress_in c.in_ok-clients.clients.items n) ≡ true) counts (opens-there (record { shards = c.args.script.now.shards; stores = c.args.script.now.stores }) c.requires.counts c.in_ok-clients.clients.items c.args.script.now.commands starts n);
         asked = subst (λ (o : List PlaceNo). places_there (counts_of c.in_ok-new.field-0) o ≡ true) (sym c.new-2.ensures.items) refl;
         free = subst (λ (h : Held). Unlocked h.shard) (sym c.in_ok-new.ensures.held) opening-unlocked;
       };

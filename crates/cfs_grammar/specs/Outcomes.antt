@@ -1,0 +1,11 @@
+-- What a reading that takes memory gives.
+use Rattle.std.specs.Prelude.{◌≡◌, Result, Ok, Err}
+use Rattle.cfs_grammar.specs.declared.fault.Fault.{Fault}
+use Rattle.cfs_grammar.specs.declared.fault.Refusal.{Refusal}
+use Rattle.cfs_grammar.specs.declared.fault.Refusal.TheVariants.{Fault as FaultRefusal, NoMemory}
+
+-- what the words say, unless memory runs out
+abbrev pub Gives : {A : Type 0} → Result A Refusal → Result A Fault → Type 0
+Gives (Ok x) said = said ≡ Ok x
+Gives (Err (FaultRefusal fault)) said = said ≡ Err fault
+Gives (Err NoMemory) said = Unit {0}

@@ -1,9 +1,0 @@
-use Rattle.std.proofs.Common.{◌≡◌, ◌≤◌, take}
-use Rattle.cfs_script.specs.Fields.{value}
-use Rattle.cfs_script.proofs.fields.value_within.Given as goal
-
-abbrev pub invariant-loop-b : goal.invariant-loop-b
-invariant-loop-b l = record {
-  so_far : l.number ≡ value (take l.b-index l.word);
-  low : l.number ≤ l.most;
-}
