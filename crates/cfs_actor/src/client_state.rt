@@ -14,8 +14,8 @@ use cfs_steps::{Ask, CallList, ClientCalls, Entry, Machine};
 use std::alloc::Global;
 
 /// A client: its current call, the calls that wait, and those that are done. After a step it keeps the entry until
-/// `settle` works it in; as contracts see it, the entry has been heard at once. Its puts of
-/// files and directories are one count: `puts` is how many nodes it has put, without that of a kept entry.
+/// `settle` works it in; as contracts see it, the entry has been heard at once. Its puts of files and directories are
+/// one count: `puts` is how many nodes it has put, without that of a kept entry.
 #[derive(Debug, Drop)]
 pub struct ClientState {
     client: Client,

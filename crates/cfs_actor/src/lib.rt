@@ -4,8 +4,6 @@
 mod call_machine;
 mod client_state;
 mod kept;
-#[cfg(test)]
-mod tests;
 mod waiting;
 
 pub use client_state::ClientState;

@@ -7,8 +7,6 @@ mod left;
 mod part;
 mod run;
 mod service;
-#[cfg(test)]
-mod tests;
 mod turned;
 mod turning;
 

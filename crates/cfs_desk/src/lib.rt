@@ -4,8 +4,6 @@
 mod clients;
 mod desk;
 mod roster;
-#[cfg(test)]
-mod tests;
 
 pub use desk::Desk;
 pub use roster::Roster;

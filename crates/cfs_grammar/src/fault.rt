@@ -7,7 +7,7 @@ use cfs_ids::NoMemory;
 /// What is wrong with a line of a script.
 #[derive(Clone, Copy, Debug, PartialEq, Eq)]
 pub enum Fault {
-    /// The first line that counts isn't `places`, or there is none.
+    /// The first line that counts isn't `places`, though its first word is one of the four, or there is none.
     NoPlaces,
     /// A number isn't written in digits without a leading zero, or is out of its range; or the line names a client that
     /// has no command, or one that has a `stop` line already.

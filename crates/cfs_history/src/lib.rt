@@ -6,8 +6,6 @@ mod history;
 mod index;
 mod lines;
 mod slots;
-#[cfg(test)]
-mod tests;
 
 pub use cfs_steps::{CallList, ClientCalls, HistoryItem, Line, Outcome};
 pub use entries::EntryList;

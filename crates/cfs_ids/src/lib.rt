@@ -8,8 +8,6 @@ mod ids;
 mod memory;
 mod name;
 mod rows;
-#[cfg(test)]
-mod tests;
 mod time;
 
 pub use attributes::{Delta, DirAttr, any_cut_folds_alike, any_order_folds_alike, fold};

@@ -6,14 +6,10 @@ mod input;
 mod line_got;
 mod line_part;
 mod line_reader;
-#[cfg(test)]
-mod line_tests;
 mod memory;
 mod pieces;
 mod standard;
 mod sure;
-#[cfg(test)]
-mod tests;
 mod text_line;
 mod traits;
 

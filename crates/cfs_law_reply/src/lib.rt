@@ -2,7 +2,5 @@
 #![tactic(auto)]
 
 mod histories;
-#[cfg(test)]
-mod tests;
 
 pub use histories::history;

@@ -1,8 +1,6 @@
 //! Lists of turns, and what holds of the places at every step of them.
 #![tactic(auto)]
 
-#[cfg(test)]
-mod tests;
 mod turns;
 
 pub use turns::{Driven, drive};

@@ -57,21 +57,3 @@ impl NodeSet {
         }
     }
 }
-
-#[cfg(test)]
-mod tests {
-    use super::*;
-    use cfs_ids::{DirId, FileId};
-
-    #[test]
-    fn a_file_and_a_directory_of_one_number_differ(rt: HostRuntime) -> Result<(), NoMemory> {
-        let mut nodes = NodeSet::new(rt.alloc());
-        nodes.add(Node::File(FileId(64)))?;
-        nodes.add(Node::Dir(DirId(65)))?;
-        assert!(rt; nodes.has(Node::File(FileId(64))));
-        assert!(rt; !nodes.has(Node::Dir(DirId(64))));
-        assert!(rt; nodes.has(Node::Dir(DirId(65))));
-        assert!(rt; !nodes.has(Node::File(FileId(65))));
-        Ok(())
-    }
-}

@@ -49,8 +49,6 @@ mod logs;
 pub mod numbers;
 mod rule;
 mod steps;
-#[cfg(test)]
-mod tests;
 mod views;
 
 pub use cells::{Cell, Pass, Taken};

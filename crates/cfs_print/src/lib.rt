@@ -8,8 +8,6 @@ mod output;
 mod printed;
 mod replies;
 mod summary;
-#[cfg(test)]
-mod tests;
 mod tree;
 mod write;
 

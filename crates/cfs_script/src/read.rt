@@ -23,7 +23,7 @@ fn script_in(alloc: Global, bytes: &[u8]) -> Result<Script, ScriptRefusal>
 }
 
 /// The script that a source holds. `ReadFault` comes only where the source failed; `Bad` has the first line that
-/// breaks the form; `NoMemory` is want of memory.
+/// breaks the form, with the first of its faults; `NoMemory` is want of memory.
 #[tactic(auto, using(crate::proofs::Told::telling), unfolding(crate::specs::Scripts::most_bytes))]
 pub fn read_script<S: Source>(alloc: Global, source: &mut S) -> Result<Script, ScriptRefusal>
     ensures read { Reads (S.left source.old) (S.left source.new) result }

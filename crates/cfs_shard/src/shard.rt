@@ -15,7 +15,6 @@ ghost use Rattle.cfs_rules.specs.Facts.{CountsHold};
 ghost use Rattle.cfs_rules.specs.Homes.{IsOwnShard};
 ghost use Rattle.cfs_steps.specs.Asks.{place_of};
 ghost use Rattle.cfs_table.specs.Flat.{flat};
-ghost use Rattle.std.specs.Cmp.Lexicographic.{slice_cmp};
 ghost use Rattle.std.specs.List.{list_any};
 ghost use Rattle.cfs_ids.specs.Namespace.{is_node};
 ghost use Rattle.cfs_maps.specs.NodeSets.{has_node};

@@ -11,8 +11,6 @@ mod log;
 mod machine;
 mod moves;
 mod serve_fault;
-#[cfg(test)]
-mod tests;
 
 pub use answer::Answer;
 pub use ask::{Ask, home_of, shard_of};

@@ -3,8 +3,6 @@
 
 mod store;
 mod table;
-#[cfg(test)]
-mod tests;
 
 pub use cfs_steps::FileRec;
 pub use store::Store;

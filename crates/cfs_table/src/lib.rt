@@ -3,8 +3,6 @@
 
 mod listing;
 mod table;
-#[cfg(test)]
-mod tests;
 mod walk;
 
 pub use cfs_steps::{DirRec, Row};

@@ -13,6 +13,3 @@ mod walks;
 pub use directory::Directory;
 pub use file::FileFacts;
 pub use namespace::Namespace;
-
-#[cfg(test)]
-mod tests;

@@ -15,6 +15,3 @@ pub use laws::rows_lie_with_their_record;
 pub use place::Place;
 pub use places::{PlaceList, Places};
 pub use tree::tree_of;
-
-#[cfg(test)]
-mod tests;

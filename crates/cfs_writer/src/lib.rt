@@ -2,8 +2,6 @@
 #![tactic(auto)]
 
 mod state;
-#[cfg(test)]
-mod tests;
 mod writer;
 
 pub use writer::Writer;
