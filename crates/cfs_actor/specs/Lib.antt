@@ -1,3 +1,6 @@
 pub mod CallMachines
 pub mod Clients
+pub mod Left
+pub mod Plans
+pub mod Programs
 pub mod States

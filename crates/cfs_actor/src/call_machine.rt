@@ -1,8 +1,8 @@
 //! The machine of any call.
-ghost use Rattle.std.specs.Prelude.{◌≡◌, ◌<◌, IsTrue, IfOk, Some};
+ghost use Rattle.std.specs.Prelude.{◌≡◌, ◌<◌, IsTrue, IfOk, Some, true};
 ghost use Rattle.cfs_ids.specs.declared.ids.Client.{Client};
 ghost use Rattle.cfs_steps.specs.Asks.{place_of};
-ghost use Rattle.cfs_steps.specs.Phases.{Phase, Asking, ask_of, heard, done_of, is_going, answers};
+ghost use Rattle.cfs_steps.specs.Phases.{Phase, Asking, ask_of, has_steps, heard, done_of, is_going, answers};
 ghost use Rattle.cfs_rules.specs.Worlds.{begun_of};
 ghost use Rattle.cfs_reader.specs.Readers.{is_reading};
 ghost use Rattle.cfs_writer.specs.Writers.{is_writing};
@@ -21,10 +21,11 @@ pub enum CallMachine {
 }
 
 impl CallMachine {
-    /// The call of this client, which has made no step. A call that writes puts its node in the shard or store with
-    /// the index `put_index`, below 64.
+    /// The call of this client, one whose steps are built, which has made none. A call that writes puts its node in the
+    /// shard or store with the index `put_index`, below 64.
     pub fn start(client: Client, call: Call, put_index: u32) -> CallMachine
-        requires { put_index < 64 }
+        requires index { put_index < 64 }
+        requires built { has_steps call ≡ true }
         ensures phase { phase_in result ≡ Asking call }
         ensures client { client_in result ≡ client }
         ensures index { IsTrue (is_writing call) → index_in result ≡ put_index }
@@ -37,6 +38,12 @@ impl CallMachine {
             Call::Create { .. } | Call::Mkdir { .. } => {
                 CallMachine::Writer(Writer::start(client, call, put_index))
             }
+            Call::StatRoot
+            | Call::Stat { .. }
+            | Call::Unlink { .. }
+            | Call::Rmdir { .. }
+            | Call::Truncate { .. }
+            | Call::Rename { .. } => unreachable!(),
         }
     }
 

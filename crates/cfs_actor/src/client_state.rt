@@ -1,39 +1,44 @@
 //! The state of a client.
-ghost use Rattle.std.specs.Prelude.{◌≡◌, ◌<◌, ◌≤◌, ◌+◌, ◌++◌, ◌∷◌, [], IsTrue, IfOk, IsOk, OnOk, OnErr, Some, None, true, false};
-ghost use Rattle.std.specs.Option.{option_map};
+ghost use Rattle.std.specs.Prelude.{◌≡◌, ◌<◌, ◌≤◌, ◌+◌, ◌++◌, ◌∷◌, [], IsTrue, IfOk, IsOk, OnOk, OnErr, Some, None, true, false, is_none};
+ghost use Rattle.std.specs.List.{list_all};
 ghost use Rattle.cfs_steps.specs.Phases.{Asking, heard};
-ghost use Rattle.cfs_rules.specs.Worlds.{IsCount, first_of, rest_of, starts, next_ask, hears, calls_of};
+ghost use Rattle.cfs_rules.specs.Worlds.{IsCount, starts, next_ask, hears, calls_of, rest_of};
+ghost use Rattle.cfs_walk.specs.Commands.{is_in_form};
 ghost use Rattle.cfs_actor.specs.CallMachines.{client_in, index_in, phase_in};
-ghost use Rattle.cfs_actor.specs.States.{counts, with_kept, worked_in, is_own, is_begun, fits, is_last, kept_puts, answers_now, is_going_now, rests};
+ghost use Rattle.cfs_actor.specs.Plans.{HasSteps, plan_of};
+ghost use Rattle.cfs_actor.specs.Programs.{plan_in, waits};
+ghost use Rattle.cfs_actor.specs.States.{counts, is_own, is_begun, fits, is_awaited, is_last, kept_puts, answers_now, is_going_now, is_ready, rests};
 
 use crate::call_machine::CallMachine;
 use crate::kept::KeptEntry;
-use crate::waiting::CallQueue;
+use crate::program::Program;
+use crate::waiting::CommandQueue;
 use cfs_ids::{Call, Client, NoMemory, PlaceNo, Ts};
-use cfs_steps::{Ask, CallList, ClientCalls, Entry, Machine};
+use cfs_steps::{Ask, CallDone, CallList, ClientCalls, Entry, Machine};
 use std::alloc::Global;
 
-/// A client: its current call, the calls that wait, and those that are done. After a step it keeps the entry until
-/// `settle` works it in; as contracts see it, the entry has been heard at once. Its puts of files and directories are
-/// one count: `puts` is how many nodes it has put, without that of a kept entry.
-#[derive(Debug, Drop)]
+/// A client: its current call, what it has left to do, and the calls that are done. After a step it keeps the entry until
+/// `settle` works it in and begins the next call; as contracts see it, both were done at once. Its puts of files and
+/// directories are one count: `puts` is how many nodes it has put, without that of a kept entry.
+#[derive(Drop)]
 pub struct ClientState {
     client: Client,
     shards: u32,
     stores: u32,
+    program: Program,
     current: Option<CallMachine>,
-    waiting: CallQueue,
     ended: bool,
     last: Ts,
     puts: u64,
-    done: CallList,
+    done: Vec<CallDone>,
     kept: Option<KeptEntry>,
     ghost some_shards: { IsCount shards },
     ghost some_stores: { IsCount stores },
     ghost own: { IsTrue (is_own (counts shards stores) client puts current) },
     ghost fitting: { IsTrue (fits kept current) },
+    ghost awaited: { IsTrue (is_awaited current program) },
     ghost stamped: { IsTrue (is_last kept last) },
-    ghost resting: { IsTrue (rests kept ended) },
+    ghost resting: { IsTrue (rests ended kept current program) },
     ghost counted: { puts + kept_puts kept ≤ last },
 }
 
@@ -49,30 +54,6 @@ fn put_index(client: Client, shards: u32, stores: u32, puts: u64, call: &Call) -
         _ => stores,
     };
     ((client.0 as u128 + puts as u128) % places as u128) as u32
-}
-
-// The next call that waits, begun.
-fn next_call(
-    client: Client,
-    shards: u32,
-    stores: u32,
-    puts: u64,
-    waiting: &mut CallQueue,
-) -> Option<CallMachine>
-    requires shards { IsCount shards }
-    requires stores { IsCount stores }
-    ensures current { option_map phase_in result ≡ first_of waiting.old }
-    ensures waiting { waiting.new ≡ rest_of waiting.old }
-    ensures own { IsTrue (is_own (counts shards stores) client puts result) }
-    ensures fits { IsTrue (fits None result) }
-{
-    match waiting.take() {
-        Some(call) => {
-            let index = put_index(client, shards, stores, puts, &call);
-            Some(CallMachine::start(client, call, index))
-        }
-        None => None,
-    }
 }
 
 // How many nodes the ask puts.
@@ -101,36 +82,59 @@ fn hear_kept(machine: &mut CallMachine, kept: &KeptEntry) -> Result<(), NoMemory
     machine.hear(kept.place, &kept.entry)
 }
 
+// Adds a finished call to those that are done, and lets the program hear its reply. On Err both are as before.
+fn finish_call(
+    program: &mut Program,
+    calls: &mut Vec<CallDone>,
+    call: &CallDone,
+) -> Result<(), NoMemory>
+    requires { IsTrue (waits program.old) }
+    ensures calls { OnOk result (calls.new.items ≡ calls.old.items ++ call.now ∷ []) }
+    ensures plan { OnOk result (plan_in program.new ≡ rest_of (plan_in program.old) call.now.reply) }
+    ensures same_calls { OnErr result (calls.new.items ≡ calls.old.items) }
+    ensures same_plan { OnErr result (plan_in program.new ≡ plan_in program.old) }
+    ensures waits { OnErr result (IsTrue (waits program.new)) }
+{
+    let copy = call.clone()?;
+    calls.reserve(1)?;
+    program.hear(&call.reply)?;
+    calls.push(copy).unwrap();
+    Ok(())
+}
+
 impl ClientState {
     ghost use Rattle.cfs_actor.specs.Clients.{client_of, counts_of, progress_of, is_settled};
 
-    /// The client with these calls to make, over 1 to 64 shards and 1 to 64 stores.
+    /// The client with these commands to carry out, whose calls are made up to `tries` times each, over 1 to 64 shards
+    /// and 1 to 64 stores.
     pub fn new(
         alloc: Global,
         client: Client,
-        calls: CallQueue,
+        commands: CommandQueue,
+        tries: u32,
         shards: u32,
         stores: u32,
     ) -> ClientState
         requires shards { IsCount shards }
         requires stores { IsCount stores }
-        ensures progress { progress_of result ≡ starts calls }
+        requires tries { 1 ≤ tries }
+        requires form { IsTrue (list_all is_in_form commands) }
+        requires steps { HasSteps (plan_of tries commands) }
+        ensures progress { progress_of result ≡ starts (plan_of tries commands) }
         ensures client { client_of result ≡ client }
         ensures counts { counts_of result ≡ counts shards stores }
-        ensures settled { IsTrue (is_settled result) }
     {
-        let mut waiting = calls;
-        let current = next_call(client, shards, stores, 0, &mut waiting);
+        let program = Program::new(alloc, commands, tries);
         ClientState {
             client,
             shards,
             stores,
-            current,
-            waiting,
+            program,
+            current: None,
             ended: false,
             last: 0,
             puts: 0,
-            done: CallList::new(alloc),
+            done: Vec::new(alloc),
             kept: None,
         }
     }
@@ -191,8 +195,8 @@ impl ClientState {
         }
     }
 
-    /// Works a kept entry in. On Err it is still kept. A client that keeps none needs no memory, and one that has ended
-    /// keeps none.
+    /// Works a kept entry in, and begins the next call where none is on its way. On Err the client is as before. A client
+    /// that is settled needs no memory, and one that has ended is settled.
     pub fn settle(&mut self) -> Result<(), NoMemory>
         ensures progress { progress_of self.new ≡ progress_of self.old }
         ensures client { client_of self.new ≡ client_of self.old }
@@ -201,29 +205,60 @@ impl ClientState {
         ensures ended { (progress_of self.old).ended ≡ true → IsOk result }
         ensures sure { IsTrue (is_settled self.old) → IsOk result }
     {
+        if self.is_settled() {
+            return Ok(());
+        }
+        self.work_in()?;
+        self.begin()
+    }
+
+    // Whether no entry is kept, and a call is on its way or nothing is left to do.
+    fn is_settled(&self) -> bool
+        ensures settled { result ≡ is_settled self.now }
+        ensures ended { (progress_of self.now).ended ≡ true → result ≡ true }
+    {
+        self.kept.is_none() && (self.current.is_some() || self.program.is_over())
+    }
+
+    // Works a kept entry in. On Err it is still kept.
+    fn work_in(&mut self) -> Result<(), NoMemory>
+        ensures progress { progress_of self.new ≡ progress_of self.old }
+        ensures client { client_of self.new ≡ client_of self.old }
+        ensures counts { counts_of self.new ≡ counts_of self.old }
+        ensures kept { OnOk result (IsTrue (is_none self.new.kept)) }
+    {
         let Some(kept) = &self.kept else {
             return Ok(());
         };
         let Some(machine) = &mut self.current else {
-            return Ok(());
+            unreachable!();
         };
         hear_kept(machine, kept)?;
         let puts = self.puts + puts_in(&kept.entry.ask);
-        if let Some(done) = machine.finished() {
-            let done = done.clone()?;
-            if self.done.push(done).is_err() {
-                return Err(NoMemory);
-            }
-            self.current = next_call(
-                self.client,
-                self.shards,
-                self.stores,
-                puts,
-                &mut self.waiting,
-            );
+        if let Some(call) = machine.finished() {
+            finish_call(&mut self.program, &mut self.done, call)?;
+            drop(self.current.take());
         }
         self.puts = puts;
         self.kept = None;
+        Ok(())
+    }
+
+    // Begins the next call, where none is on its way.
+    fn begin(&mut self) -> Result<(), NoMemory>
+        requires { IsTrue (is_none self.old.kept) }
+        ensures progress { progress_of self.new ≡ progress_of self.old }
+        ensures client { client_of self.new ≡ client_of self.old }
+        ensures counts { counts_of self.new ≡ counts_of self.old }
+        ensures settled { OnOk result (IsTrue (is_settled self.new)) }
+    {
+        if self.is_settled() {
+            return Ok(());
+        }
+        if let Some(call) = self.program.next_call()? {
+            let index = put_index(self.client, self.shards, self.stores, self.puts, &call);
+            self.current = Some(CallMachine::start(self.client, call, index));
+        }
         Ok(())
     }
 
@@ -238,7 +273,7 @@ impl ClientState {
         };
         Ok(ClientCalls {
             client: self.client,
-            done: self.done.copy()?,
+            done: CallList::of(self.done.clone()?),
             begun,
         })
     }

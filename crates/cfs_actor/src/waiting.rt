@@ -1,50 +1,66 @@
-//! The calls that wait.
-ghost use Rattle.std.specs.Prelude.{◌≡◌, [], ◌∷◌, ◌++◌, OnOk, OnErr, MatchOption};
-ghost use Rattle.cfs_ids.specs.declared.call.Call.{Call};
+//! The commands that wait.
+ghost use Rattle.std.specs.Prelude.{◌≡◌, [], ◌∷◌, ◌++◌, OnOk, OnErr, MatchOption, slice_get};
+ghost use Rattle.std.specs.Option.{option_copied};
+ghost use Rattle.cfs_actor.specs.Left.{no_commands};
 
-use cfs_ids::{Call, NoMemory};
+use cfs_ids::NoMemory;
+use cfs_walk::Command;
 use std::alloc::Global;
 use std::collections::VecDeque;
 use std::marker::Model;
 
-/// Calls that a client has still to make, the next one first.
+/// Commands that a client has still to carry out, the next one first.
 #[derive(Debug, Drop)]
-pub struct CallQueue {
-    calls: VecDeque<Call>,
+pub struct CommandQueue {
+    commands: VecDeque<Command>,
 }
 
-impl Model for CallQueue {
+impl Model for CommandQueue {
     ghost use Rattle.std.specs.Prelude.{List};
-    ghost use Rattle.cfs_ids.specs.declared.call.Call.{Call};
+    ghost use Rattle.cfs_walk.specs.declared.command.Command.{Command};
 
-    ghost Value = { List Call };
+    ghost Value = { List Command };
 
-    ghost view = { λ queue. queue.calls.items };
+    ghost view = { λ queue. queue.commands.items };
 }
 
-impl CallQueue {
-    /// No calls.
-    pub fn new(alloc: Global) -> CallQueue
+impl CommandQueue {
+    /// No commands.
+    pub fn new(alloc: Global) -> CommandQueue
         ensures { result ≡ [] }
     {
-        CallQueue {
-            calls: VecDeque::new(alloc),
+        CommandQueue {
+            commands: VecDeque::new(alloc),
         }
     }
 
-    /// Adds a call after the others.
-    pub fn push(&mut self, call: Call) -> Result<(), NoMemory>
-        ensures ok { OnOk result (self.new ≡ self.old ++ call ∷ []) }
+    /// Whether no command waits.
+    pub fn is_empty(&self) -> bool
+        ensures { result ≡ no_commands self.now }
+    {
+        self.commands.is_empty()
+    }
+
+    /// The next command. None comes exactly where no command waits.
+    pub fn first(&self) -> Option<&Command>
+        ensures { option_copied result ≡ slice_get self.now 0 }
+    {
+        self.commands.front()
+    }
+
+    /// Adds a command after the others.
+    pub fn push(&mut self, command: Command) -> Result<(), NoMemory>
+        ensures ok { OnOk result (self.new ≡ self.old ++ command ∷ []) }
         ensures err { OnErr result (self.new ≡ self.old) }
     {
-        self.calls.push_back(call)?;
+        self.commands.push_back(command)?;
         Ok(())
     }
 
-    /// Takes the next call. None comes exactly where no call waits.
-    pub fn take(&mut self) -> Option<Call>
-        ensures { MatchOption result ((self.old ≡ []) × (self.new ≡ [])) (λ call. self.old ≡ call ∷ self.new) }
+    /// Takes the next command. None comes exactly where no command waits.
+    pub fn take(&mut self) -> Option<Command>
+        ensures { MatchOption result ((self.old ≡ []) × (self.new ≡ [])) (λ command. self.old ≡ command ∷ self.new) }
     {
-        self.calls.pop_front()
+        self.commands.pop_front()
     }
 }

@@ -8,7 +8,7 @@ use Rattle.cfs_rules.specs.Worlds.{Counts}
 use Rattle.cfs_actor.specs.declared.client_state.ClientState.{ClientState}
 use Rattle.cfs_actor.specs.Clients.{counts_of}
 use Rattle.cfs_core.specs.Clients.{works_with}
-use Rattle.cfs_core.proofs.Reaching.{and_left, and_right, both}
+use Rattle.cfs_core.proofs.Truths.{and_left, and_right, both}
 
 abbrev are : Counts → Counts → Bool
 are counts own = (own.shards == counts.shards) && (own.stores == counts.stores)

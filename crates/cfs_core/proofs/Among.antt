@@ -5,16 +5,18 @@ use Rattle.cfs_ids.specs.declared.ids.Client.{Client}
 use Rattle.cfs_ids.specs.declared.ids.PlaceNo.{PlaceNo}
 use Rattle.cfs_ids.specs.declared.ids.Actor.TheVariants.{Client as ClientActor}
 use Rattle.cfs_steps.specs.declared.ask.Ask.{Ask}
+use Rattle.cfs_rules.specs.Facts.{Unlocked}
 use Rattle.cfs_rules.specs.Worlds.{Counts, AreCounts, Progress, client_of, next_ask, set_client}
 use Rattle.cfs_actor.specs.declared.client_state.ClientState.{ClientState}
 use Rattle.cfs_actor.specs.Clients as states
 use Rattle.cfs_view.specs.Held.{Held, serve}
 use Rattle.cfs_core.specs.Clients.{progress_in}
 use Rattle.cfs_core.specs.Counted.{IsCounted}
-use Rattle.cfs_core.specs.Reach.{progress_there}
+use Rattle.cfs_core.specs.Reach.{ProgressThere, RowsThere}
 use Rattle.cfs_core.specs.Parts.{Part, turned, turn_part, full_next}
 use Rattle.cfs_core.proofs.States.{progress_in-at, client-at, progress_in-set}
 use Rattle.cfs_core.proofs.Counting.{turn-counted}
+use Rattle.cfs_core.proofs.Named.{turn-named}
 
 -- the client's progress is that of its state
 pub was-progress : (all : List ClientState) (i : ℕ) (old : ClientState) (client : Client) → position (λ (state : ClientState). (states.client_of state).0 == client.0) all ≡ Some i → old ≡ get_or all i old → progress_in all client.0 ≡ states.progress_of old
@@ -26,7 +28,7 @@ was-client all i old client at is = ap client_of (ap (λ (s : ClientState). (sta
 pub stepped-counted : (counts : Counts) → AreCounts counts → (all : List ClientState) (i : ℕ) (old new : ClientState) (client : Client) (h h' : Held) (order order' : List PlaceNo)
     → position (λ (state : ClientState). (states.client_of state).0 == client.0) all ≡ Some i → old ≡ get_or all i old → states.client_of new ≡ states.client_of old
     → ◌≡◌ {A = Part} (record { held = h'; progress = states.progress_of new; order = order' }) (turn_part counts (states.client_of old) (record { held = h; progress = states.progress_of old; order = order }))
-    → progress_there counts (states.progress_of old) ≡ true → full_next counts (states.client_of old) h (states.progress_of old) ≡ false → IsCounted order h (progress_in all) → IsCounted order' h' (progress_in (set all i new))
+    → ProgressThere counts (states.progress_of old) → full_next counts (states.client_of old) h (states.progress_of old) ≡ false → IsCounted order h (progress_in all) → IsCounted order' h' (progress_in (set all i new))
 stepped-counted counts good all i old new client h h' order order' at is same step there room k =
     let here : states.client_of old ≡ client = was-client all i old client at is in
     let own : (states.client_of new).0 ≡ client.0 = ap (λ (c : Client). c.0) (same ∙ here) in
@@ -50,11 +52,17 @@ stepped-held counts c k p q new h h' order order' ask step same was next =
 -- what each client asks is there, the one with the new state too
 pub there-set : (counts : Counts) (all : List ClientState) (i : ℕ) (old new : ClientState) (client : Client)
     → position (λ (state : ClientState). (states.client_of state).0 == client.0) all ≡ Some i → old ≡ get_or all i old → states.client_of new ≡ states.client_of old
-    → ((c : ℕ) → progress_there counts (progress_in all c) ≡ true) → progress_there counts (states.progress_of new) ≡ true → (c : ℕ) → progress_there counts (progress_in (set all i new) c) ≡ true
+    → ((c : ℕ) → ProgressThere counts (progress_in all c)) → ProgressThere counts (states.progress_of new) → (c : ℕ) → ProgressThere counts (progress_in (set all i new) c)
 there-set counts all i old new client at is same there now c =
     let own : (states.client_of new).0 ≡ client.0 = ap (λ (k : Client). k.0) (same ∙ was-client all i old client at is) in
-    subst (λ (cs : ℕ → Progress). progress_there counts (cs c) ≡ true) (sym (progress_in-set all client.0 i new at own)) (by_test (c == client.0))
+    subst (λ (cs : ℕ → Progress). ProgressThere counts (cs c)) (sym (progress_in-set all client.0 i new at own)) (by_test (c == client.0))
   where
-    by_test : (b : Bool) → progress_there counts (if b then states.progress_of new else progress_in all c) ≡ true
+    by_test : (b : Bool) → ProgressThere counts (if b then states.progress_of new else progress_in all c)
     by_test true = now
     by_test false = there c
+
+-- what rows name is there after a step
+pub stepped-named : (counts : Counts) (c : Client) (p new : Progress) (h h' : Held) (order order' : List PlaceNo)
+    → ◌≡◌ {A = Part} (record { held = h'; progress = new; order = order' }) (turn_part counts c (record { held = h; progress = p; order = order }))
+    → Unlocked h.shard → ProgressThere counts p → RowsThere counts h.shard → RowsThere counts h'.shard
+stepped-named counts c p new h h' order order' step free there named = subst (λ (part : Part). RowsThere counts part.held.shard) (sym step) (turn-named counts c order h p free named there)

@@ -14,7 +14,7 @@ use Rattle.cfs_rules.specs.Worlds.{Counts, AreCounts, Progress, client_of, next_
 use Rattle.cfs_view.specs.Held.{Held, Step, set_log, serve_in, serve_late, full, log_full, has_place}
 use Rattle.cfs_core.specs.Counted.{IsCounted, sum_below}
 use Rattle.cfs_core.specs.Parts.{turned, turn_part, full_asked, full_next}
-use Rattle.cfs_core.specs.Reach.{progress_there}
+use Rattle.cfs_core.specs.Reach.{ProgressThere}
 use Rattle.cfs_core.proofs.Reaching.{asks_there}
 
 with_phase-last : (p : Progress) (entry : Entry) (phase : Phase) → (with_phase p entry phase).last ≡ entry.number
@@ -149,7 +149,7 @@ turned-counted order h clients c p is None low k room = record {
 turned-counted order h clients c p is (Some ask) low k room = step-counted order h clients c p ask _ (ap (λ (r : Progress). r.last) is) k (low ask refl) room
     (one_more (nat_lt (place_of ask).0 64) (nat_lt (place_of ask).0 128) h c (number_after p.last (h.lasts (place_of ask).0)) ask)
 
-pub turn-counted : (counts : Counts) → AreCounts counts → (order : List PlaceNo) (h : Held) (clients : ℕ → Progress) (c : ℕ) (p : Progress) → clients c ≡ p → progress_there counts p ≡ true → IsCounted order h clients → full_next counts (client_of c) h p ≡ false
+pub turn-counted : (counts : Counts) → AreCounts counts → (order : List PlaceNo) (h : Held) (clients : ℕ → Progress) (c : ℕ) (p : Progress) → clients c ≡ p → ProgressThere counts p → IsCounted order h clients → full_next counts (client_of c) h p ≡ false
     → (let part = turn_part counts (client_of c) (record { held = h; progress = p; order = order }) in IsCounted part.order part.held (set_client clients c part.progress))
 turn-counted counts good order h clients c p is there k room = turned-counted order h clients c p is (next_ask counts (client_of c) p) (λ ask next. place_low counts (place_of ask).0 good (asks_there counts good (client_of c) p ask next there)) k room
 
@@ -170,7 +170,7 @@ many n count h le = grind (arith, nat_tests)
 pub many-steps : (order : List PlaceNo) (h : Held) (clients : ℕ → Progress) (ask : Ask) → (place_of ask).0 < 130 → IsCounted order h clients → log_full h ask ≡ true → 1048576 ≤ length order
 many-steps order h clients ask low k f = let above = sum_above 130 (place_of ask).0 (λ q. length (h.logs q)) low in many (length order) (length (h.logs (place_of ask).0)) f (omega (arith, above, k.total))
 
-pub asked-low : (counts : Counts) → AreCounts counts → (c : Client) (p : Progress) (ask : Ask) → Some ask ≡ next_ask counts c p → progress_there counts p ≡ true → (place_of ask).0 < 130
+pub asked-low : (counts : Counts) → AreCounts counts → (c : Client) (p : Progress) (ask : Ask) → Some ask ≡ next_ask counts c p → ProgressThere counts p → (place_of ask).0 < 130
 asked-low counts good c p ask next there = place_low counts (place_of ask).0 good (asks_there counts good c p ask next there)
 
 -- ---- a place that serves has room in its log

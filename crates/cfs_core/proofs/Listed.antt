@@ -27,6 +27,7 @@ use Rattle.cfs_rules.proofs.Locks.{serve_shard-unlocked}
 use Rattle.cfs_rules.specs.Worlds.{Counts, AreCounts, IsCount, Progress, stamped, put_index, next_ask, asked_next}
 use Rattle.cfs_actor.specs.States.{answers_now, is_going_now}
 use Rattle.cfs_view.specs.Held.{Held, serve}
+use Rattle.cfs_core.specs.Reach.{phase_there, current_there}
 
 -- the shard of a directory, and the store of a file
 in_shard : (n : ℕ) → nat_lt (n % 64) 64 ≡ true
@@ -109,29 +110,30 @@ free_listed : (s : Shard) → Unlocked s → (at : Stamp) (ask : Ask) (phase : P
 free_listed s free at ask phase h = subst (λ (served : Served Shard). answers phase served.answer ≡ true) (sym (serve_shard-unlocked s free at ask)) h
 
 module _ (counts : Counts) (good : AreCounts counts) (h : Held) (free : Unlocked h.shard) where
-  phase_listed : (actor : Actor) (c : Client) (last puts : ℕ) (phase : Phase) → is_going phase ≡ true → answers phase (serve h actor last (ask_of c (put_index counts c puts phase) phase)).entry.answer ≡ true
-  phase_listed actor c last puts (Asking (Lookup dir name)) going = rw (in_shard dir.0) (free_listed h.shard free (at_step h last (Read dir name)) (Read dir name) (Asking (Lookup dir name)) (read_listed dir name (get h.shard.rows (row_key dir name))))
-  phase_listed actor c last puts (Asking (ListCall dir)) going = rw (in_shard dir.0) (free_listed h.shard free (at_step h last (ListAsk dir)) (ListAsk dir) (Asking (ListCall dir)) (list_listed h.shard dir (get h.shard.recs dir.0)))
-  phase_listed actor c last puts (Asking (Create dir name)) going =
+  phase_listed : (actor : Actor) (c : Client) (last puts : ℕ) (phase : Phase) → is_going phase ≡ true → phase_there counts phase ≡ true → answers phase (serve h actor last (ask_of c (put_index counts c puts phase) phase)).entry.answer ≡ true
+  phase_listed actor c last puts (Asking (Lookup dir name)) going there = rw (in_shard dir.0) (free_listed h.shard free (at_step h last (Read dir name)) (Read dir name) (Asking (Lookup dir name)) (read_listed dir name (get h.shard.rows (row_key dir name))))
+  phase_listed actor c last puts (Asking (ListCall dir)) going there = rw (in_shard dir.0) (free_listed h.shard free (at_step h last (ListAsk dir)) (ListAsk dir) (Asking (ListCall dir)) (list_listed h.shard dir (get h.shard.recs dir.0)))
+  phase_listed actor c last puts (Asking (Create dir name)) going there =
       let low = low_index counts.stores (c.0 + puts) good.stores in
       let few = good.stores.1 in
       rw (index_above ((c.0 + puts) % counts.stores), index_in_store ((c.0 + puts) % counts.stores) (omega arith)) refl
-  phase_listed actor c last puts (Asking (Mkdir dir name)) going =
+  phase_listed actor c last puts (Asking (Mkdir dir name)) going there =
       let low = low_index counts.shards (c.0 + puts) good.shards in
       let few = good.shards.1 in
       rw (index_in_shard ((c.0 + puts) % counts.shards) (omega arith)) refl
-  phase_listed actor c last puts (Inserting dir name node ts first) going = rw (in_shard dir.0) (free_listed h.shard free _ (Insert c dir name node ts) (Inserting dir name node ts first) (insert_listed h.shard _ c dir name node ts (get h.shard.recs dir.0) (get h.shard.rows (row_key dir name))))
-  phase_listed actor c last puts (Settling dir name (File file) ts first at) going = rw (not_shard file.0, in_store file.0) (settle_listed h.store file (get h.store file.0))
-  phase_listed actor c last puts (Settling dir name (Dir child) ts first at) going = rw (in_shard child.0) (settle_dir_listed h.shard child (get h.shard.recs child.0))
-  phase_listed actor c last puts (TakingBack dir name (File file) errno first at) going = rw (not_shard file.0, in_store file.0) (take_back_listed h.store c file (get h.store file.0))
-  phase_listed actor c last puts (TakingBack dir name (Dir child) errno first at) going = rw (in_shard child.0) (take_back_dir_listed h.shard c child (get h.shard.recs child.0))
-  phase_listed actor c last puts (Finished done) going = cc
+  phase_listed actor c last puts (Asking call) going there = cc
+  phase_listed actor c last puts (Inserting dir name node ts first) going there = rw (in_shard dir.0) (free_listed h.shard free _ (Insert c dir name node ts) (Inserting dir name node ts first) (insert_listed h.shard _ c dir name node ts (get h.shard.recs dir.0) (get h.shard.rows (row_key dir name))))
+  phase_listed actor c last puts (Settling dir name (File file) ts first at) going there = rw (not_shard file.0, in_store file.0) (settle_listed h.store file (get h.store file.0))
+  phase_listed actor c last puts (Settling dir name (Dir child) ts first at) going there = rw (in_shard child.0) (settle_dir_listed h.shard child (get h.shard.recs child.0))
+  phase_listed actor c last puts (TakingBack dir name (File file) errno first at) going there = rw (not_shard file.0, in_store file.0) (take_back_listed h.store c file (get h.store file.0))
+  phase_listed actor c last puts (TakingBack dir name (Dir child) errno first at) going there = rw (in_shard child.0) (take_back_dir_listed h.shard c child (get h.shard.recs child.0))
+  phase_listed actor c last puts (Finished done) going there = cc
 
-  current_listed : (actor : Actor) (c : Client) (last puts : ℕ) (ended : Bool) (current : Option Phase) (ask : Ask) → Some ask ≡ asked_next counts c puts ended current → is_going_now current ≡ true → answers_now current (serve h actor last ask).entry.answer ≡ true
-  current_listed actor c last puts true current ask is going = cc
-  current_listed actor c last puts false None ask is going = refl
-  current_listed actor c last puts false (Some phase) ask is going = let same : ask ≡ ask_of c (put_index counts c puts phase) phase = cc in rw same (phase_listed actor c last puts phase going)
+  current_listed : (actor : Actor) (c : Client) (last puts : ℕ) (ended : Bool) (current : Option Phase) (ask : Ask) → Some ask ≡ asked_next counts c puts ended current → is_going_now current ≡ true → current_there counts current ≡ true → answers_now current (serve h actor last ask).entry.answer ≡ true
+  current_listed actor c last puts true current ask is going there = cc
+  current_listed actor c last puts false None ask is going there = refl
+  current_listed actor c last puts false (Some phase) ask is going there = let same : ask ≡ ask_of c (put_index counts c puts phase) phase = cc in rw same (phase_listed actor c last puts phase going there)
 
   -- what a client asks is answered as its current call can hear it
-  pub listed : (actor : Actor) (c : Client) (last : ℕ) (p : Progress) (ask : Ask) → Some ask ≡ next_ask counts c p → is_going_now p.current ≡ true → answers_now p.current (serve h actor last ask).entry.answer ≡ true
-  listed actor c last p ask is going = current_listed actor c last p.puts p.ended p.current ask is going
+  pub listed : (actor : Actor) (c : Client) (last : ℕ) (p : Progress) (ask : Ask) → Some ask ≡ next_ask counts c p → is_going_now p.current ≡ true → current_there counts p.current ≡ true → answers_now p.current (serve h actor last ask).entry.answer ≡ true
+  listed actor c last p ask is going there = current_listed actor c last p.puts p.ended p.current ask is going there

@@ -1,5 +1,5 @@
 -- Clients that work in what they keep show the same as before.
-use Rattle.std.proofs.Common.{◌≡◌, ℕ, List, true, sym, ◌∙◌, subst, map, reverse}
+use Rattle.std.proofs.Common.{◌≡◌, ℕ, List, sym, ◌∙◌, subst, map, reverse}
 use Rattle.cfs_ids.specs.declared.ids.PlaceNo.{PlaceNo}
 use Rattle.cfs_rules.specs.Worlds.{Progress}
 use Rattle.cfs_actor.specs.declared.client_state.ClientState.{ClientState}
@@ -9,7 +9,7 @@ use Rattle.cfs_view.specs.Views.{held, counts_of as places_of}
 use Rattle.cfs_core.specs.Clients.{IsSound}
 use Rattle.cfs_core.specs.Counted.{IsCounted}
 use Rattle.cfs_core.specs.Opening.{shown}
-use Rattle.cfs_core.specs.Reach.{progress_there}
+use Rattle.cfs_core.specs.Reach.{ProgressThere}
 use Rattle.cfs_core.proofs.Alike.{alike-same}
 use Rattle.cfs_core.proofs.Shown.{progress_in-shown}
 
@@ -21,7 +21,8 @@ sound-settled places new old order same counts sound =
       counted = subst (λ (cs : ℕ → Progress). IsCounted (reverse order) (held places) cs) progress sound.counted;
       sized = sound.sized;
       alike = alike-same (places_of places) new old counts ∙ sound.alike;
-      there = λ c. subst (λ (cs : ℕ → Progress). progress_there (places_of places) (cs c) ≡ true) progress (sound.there c);
+      there = λ c. subst (λ (cs : ℕ → Progress). ProgressThere (places_of places) (cs c)) progress (sound.there c);
       asked = sound.asked;
+      named = sound.named;
       free = sound.free;
     }

@@ -4,13 +4,13 @@ use Rattle.std.specs.Prelude.{if◌then◌else◌, ◌==◌}
 use Rattle.std.proofs.lemmas.List.{take_more, map-append}
 use Rattle.cfs_ids.specs.declared.ids.Client.{Client}
 use Rattle.cfs_walk.specs.declared.command.Command.{Command}
-use Rattle.cfs_script.specs.Calls.{call_of}
 use Rattle.cfs_rules.specs.Worlds.{Progress, starts, calls_of}
 use Rattle.cfs_actor.specs.declared.client_state.ClientState.{ClientState}
 use Rattle.cfs_actor.specs.Clients.{client_of, progress_of}
+use Rattle.cfs_actor.specs.Plans.{plan_of}
 use Rattle.cfs_core.specs.Clients.{progress_in, members_of}
 use Rattle.cfs_core.specs.Ends.{calls_of_states}
-use Rattle.cfs_core.specs.Opening.{shown, started, calls_in as calls_of_lists, members_in, StartsAs}
+use Rattle.cfs_core.specs.Opening.{shown, started, plans_in, members_in, StartsAs}
 
 -- a state that shows the same in the place of another
 pub shown-set : (states : List ClientState) (i : ℕ) (new d : ClientState) → client_of new ≡ client_of (get_or states i d) → progress_of new ≡ progress_of (get_or states i d) → map shown (set states i new) ≡ map shown states
@@ -58,7 +58,7 @@ members_of-shown (x ∷ xs) (y ∷ ys) e =
     λ j. (who j).0 ∷ later j
 
 -- ---- the opening
-started_at : (states : List ClientState) (lists : List (Client × List Command)) (c : ℕ) → StartsAs states lists → progress_in states c ≡ starts (calls_of_lists lists c)
+started_at : (states : List ClientState) (lists : List (Client × List Command)) (c : ℕ) → StartsAs states lists → progress_in states c ≡ starts (plans_in lists c)
 started_at [] [] c e = refl
 started_at [] (l ∷ lists) c e = cc
 started_at (s ∷ states) [] c e = cc
@@ -66,16 +66,16 @@ started_at (s ∷ states) (l ∷ lists) c e =
     let rest : map shown states ≡ map started lists = cc in
     let pair : shown s ≡ started l = cc in
     let who : client_of s ≡ l.0 = ap (λ (e : Client × Progress). e.0) pair in
-    let what : progress_of s ≡ starts (map call_of l.1) = ap (λ (e : Client × Progress). e.1) pair in
+    let what : progress_of s ≡ starts (plan_of 1 l.1) = ap (λ (e : Client × Progress). e.1) pair in
     ap (λ (k : Client). if k.0 == c then progress_of s else progress_in states c) who
     ∙ by_test (l.0.0 == c) what (started_at states lists c rest)
   where
-    by_test : (b : Bool) → progress_of s ≡ starts (map call_of l.1) → progress_in states c ≡ starts (calls_of_lists lists c)
-        → (if b then progress_of s else progress_in states c) ≡ starts (if b then map call_of l.1 else calls_of_lists lists c)
+    by_test : (b : Bool) → progress_of s ≡ starts (plan_of 1 l.1) → progress_in states c ≡ starts (plans_in lists c)
+        → (if b then progress_of s else progress_in states c) ≡ starts (if b then plan_of 1 l.1 else plans_in lists c)
     by_test true what rest = what
     by_test false what rest = rest
 
-pub progress_in-started : (states : List ClientState) (lists : List (Client × List Command)) → StartsAs states lists → progress_in states ≡ (λ c. starts (calls_of_lists lists c))
+pub progress_in-started : (states : List ClientState) (lists : List (Client × List Command)) → StartsAs states lists → progress_in states ≡ (λ c. starts (plans_in lists c))
 progress_in-started states lists e = λ j c. started_at states lists c e j
 
 pub members_of-started : (states : List ClientState) (lists : List (Client × List Command)) → StartsAs states lists → members_of states ≡ members_in lists

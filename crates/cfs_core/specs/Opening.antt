@@ -1,32 +1,31 @@
--- The calls of the clients of a script.
+-- What the clients of a script do.
 use Rattle.std.specs.Prelude.{◌≡◌, ℕ, List, [], ◌∷◌, map, ◌==◌, if◌then◌else◌}
 use Rattle.cfs_ids.specs.declared.ids.Client.{Client}
-use Rattle.cfs_ids.specs.declared.call.Call.{Call}
-use Rattle.cfs_rules.specs.Worlds.{Progress, Setup, starts}
-use Rattle.cfs_actor.specs.declared.client_state.ClientState.{ClientState}
-use Rattle.cfs_actor.specs.Clients.{client_of, progress_of}
+use Rattle.cfs_rules.specs.Worlds.{Plan, Ends, Progress, Setup, starts}
 use Rattle.cfs_walk.specs.declared.command.Command.{Command}
 use Rattle.cfs_script.specs.declared.script.Script.{Script}
-use Rattle.cfs_script.specs.Calls.{call_of}
+use Rattle.cfs_actor.specs.declared.client_state.ClientState.{ClientState}
+use Rattle.cfs_actor.specs.Clients.{client_of, progress_of}
+use Rattle.cfs_actor.specs.Plans.{plan_of}
 
--- the calls of a client's commands, in order
-abbrev pub calls_in : List (Client × List Command) → ℕ → List Call
-calls_in [] c = []
-calls_in (list ∷ lists) c = if list.0.0 == c then map call_of list.1 else calls_in lists c
+-- a client carries out its commands in order, and makes each call once
+abbrev pub plans_in : List (Client × List Command) → ℕ → Plan
+plans_in [] c = Ends
+plans_in (list ∷ lists) c = if list.0.0 == c then plan_of 1 list.1 else plans_in lists c
 
 abbrev pub members_in : List (Client × List Command) → List ℕ
 members_in lists = map (λ list. list.0.0) lists
 
 -- the setup of a script
 abbrev pub setup_of : Script → Setup
-setup_of script = record { counts = record { shards = script.shards; stores = script.stores }; calls = calls_in script.commands }
+setup_of script = record { counts = record { shards = script.shards; stores = script.stores }; plans = plans_in script.commands }
 
 -- a client with its progress
 abbrev pub shown : ClientState → Client × Progress
 shown state = (client_of state, progress_of state)
 
 abbrev pub started : Client × List Command → Client × Progress
-started list = (list.0, starts (map call_of list.1))
+started list = (list.0, starts (plan_of 1 list.1))
 
 -- the states are those of the lists' clients, one after the other, at their start
 abbrev pub StartsAs : List ClientState → List (Client × List Command) → Type 0

@@ -7,8 +7,8 @@ ghost use Rattle.cfs_rules.specs.Worlds.{AreCounts, next_ask};
 ghost use Rattle.cfs_view.specs.Held.{full};
 ghost use Rattle.cfs_view.specs.Views.{held, counts_of, IsService};
 ghost use Rattle.cfs_core.specs.Clients.{works_with};
-ghost use Rattle.cfs_core.specs.Reach.{progress_there, places_there};
-ghost use Rattle.cfs_actor.specs.Clients.{client_of, progress_of, is_settled};
+ghost use Rattle.cfs_core.specs.Reach.{ProgressThere, RowsThere, places_there};
+ghost use Rattle.cfs_actor.specs.Clients.{client_of, progress_of};
 ghost use Rattle.cfs_core.specs.Parts.{Part, turn_part, full_next};
 
 use crate::turned::Turned;
@@ -27,7 +27,8 @@ pub fn turn_client(
     requires sized { AreCounts (counts_of places.old) }
     requires free { Unlocked (held places.old).shard }
     requires alike { works_with (counts_of places.old) state.old ≡ true }
-    requires there { progress_there (counts_of places.old) (progress_of state.old) ≡ true }
+    requires there { ProgressThere (counts_of places.old) (progress_of state.old) }
+    requires named { RowsThere (counts_of places.old) (held places.old).shard }
     ensures stepped { result ≡ Ok Turned.Stepped → record { held = held places.new; progress = progress_of state.new; order = reverse order.new.items } ≡ turn_part (counts_of places.old) (client_of state.old) (record { held = held places.old; progress = progress_of state.old; order = reverse order.old.items }) }
     ensures idle { (result ≡ Ok Turned.Idle) ↔ ((progress_of state.old).ended ≡ true) }
     ensures full { (place : _) → result ≡ Ok (Turned.Full place) → (ask : Ask) × (Some ask ≡ next_ask (counts_of places.old) (client_of state.old) (progress_of state.old)) × (place ≡ place_of ask) × (full (held places.old) (progress_of state.old).last ask ≡ true) }
@@ -40,7 +41,7 @@ pub fn turn_client(
     ensures service { IsService places.new }
     ensures counts { counts_of places.new ≡ counts_of places.old }
     ensures alike { works_with (counts_of places.old) state.new ≡ true }
-    ensures there { progress_there (counts_of places.old) (progress_of state.new) ≡ true }
+    ensures there { ProgressThere (counts_of places.old) (progress_of state.new) }
     ensures asked { places_there (counts_of places.old) order.old.items ≡ true → places_there (counts_of places.old) order.new.items ≡ true }
 {
     state.settle()?;

@@ -12,6 +12,7 @@ ghost use Rattle.cfs_view.specs.Views.{held, counts_of as places_of};
 ghost use Rattle.cfs_core.specs.Clients.{IsSound, number_in};
 ghost use Rattle.cfs_core.specs.Finished.{IsRunOf};
 ghost use Rattle.cfs_core.specs.Opening.{setup_of, members_in};
+ghost use Rattle.cfs_core.specs.Reach.{PlanThere-prop};
 
 use crate::begin::states_of;
 use crate::finish::{calls_of_all, entries_of};
@@ -39,7 +40,7 @@ pub struct Core {
     places: Places,
     clients: Vec<ClientState>,
     order: Vec<PlaceNo>,
-    ghost sound: { IsSound places clients.items order.items } by { Prim.hlevel (props, AreNumbered-prop, AreOwnShards-prop, AreOwnStores-prop) },
+    ghost sound: { IsSound places clients.items order.items } by { Prim.hlevel (props, AreNumbered-prop, AreOwnShards-prop, AreOwnStores-prop, PlanThere-prop) },
 }
 
 impl Core {

@@ -5,10 +5,22 @@ ghost use Rattle.cfs_ids.specs.Errnos.{text_of, errno_named};
 /// Why a call was refused (POSIX.1-2017, System Interfaces, 2.3 Error Numbers).
 #[derive(Clone, Copy, Debug, PartialEq, Eq)]
 pub enum Errno {
-    /// A directory or a name isn't there.
+    /// A directory, a name or a file isn't there.
     Enoent,
     /// The name is there already.
     Eexist,
+    /// A directory is needed, and this is a file.
+    Enotdir,
+    /// A file is needed, and this is a directory.
+    Eisdir,
+    /// The directory has names.
+    Enotempty,
+    /// A directory's name isn't taken away so.
+    Eperm,
+    /// A directory would come to lie below itself.
+    Einval,
+    /// A component of a path has over 255 bytes.
+    Enametoolong,
 }
 
 /// The name of the errno, as POSIX writes it.
@@ -18,6 +30,12 @@ pub fn errno_text(e: Errno) -> &'static str
     match e {
         Errno::Enoent => "ENOENT",
         Errno::Eexist => "EEXIST",
+        Errno::Enotdir => "ENOTDIR",
+        Errno::Eisdir => "EISDIR",
+        Errno::Enotempty => "ENOTEMPTY",
+        Errno::Eperm => "EPERM",
+        Errno::Einval => "EINVAL",
+        Errno::Enametoolong => "ENAMETOOLONG",
     }
 }
 
@@ -29,6 +47,18 @@ pub fn errno_of(word: &[u8]) -> Option<Errno>
         Some(Errno::Enoent)
     } else if word == b"EEXIST".as_slice() {
         Some(Errno::Eexist)
+    } else if word == b"ENOTDIR".as_slice() {
+        Some(Errno::Enotdir)
+    } else if word == b"EISDIR".as_slice() {
+        Some(Errno::Eisdir)
+    } else if word == b"ENOTEMPTY".as_slice() {
+        Some(Errno::Enotempty)
+    } else if word == b"EPERM".as_slice() {
+        Some(Errno::Eperm)
+    } else if word == b"EINVAL".as_slice() {
+        Some(Errno::Einval)
+    } else if word == b"ENAMETOOLONG".as_slice() {
+        Some(Errno::Enametoolong)
     } else {
         None
     }

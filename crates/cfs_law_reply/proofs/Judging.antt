@@ -9,7 +9,7 @@ use Rattle.cfs_core.specs.Finished.{IsRunOf}
 use Rattle.cfs_core.specs.declared.run.Run.{Run}
 use Rattle.cfs_law_reply.specs.Judged.{IsJudged}
 
-module _ (setup : Setup) (good : IsSetup setup) (turns members : List ℕ) (rising : IsRising members) (callers : HasCallers setup.calls members) where
+module _ (setup : Setup) (good : IsSetup setup) (turns members : List ℕ) (rising : IsRising members) (callers : HasCallers setup.plans members) where
   of-world : IsJudged members (played setup turns) (world_history members (played setup turns))
   of-world = record {
     history = λ j. world_history members (played setup turns);

@@ -23,7 +23,7 @@ fn items_of(alloc: Global, run: &Run) -> Result<History, NoMemory>
 /// want of memory.
 pub fn history(alloc: Global, run: &Run) -> Result<History, NoMemory>
     ensures items { IfOk result (λ items. items ≡ history_of (reverse run.now.entries) run.now.calls.items) }
-    ensures judged { IfOk result (λ items. (setup : Setup) → IsSetup setup → (turns members : List ℕ) → IsRising members → HasCallers setup.calls members
+    ensures judged { IfOk result (λ items. (setup : Setup) → IsSetup setup → (turns members : List ℕ) → IsRising members → HasCallers setup.plans members
         → IsRunOf members (played setup turns) run.now → IsJudged members (played setup turns) items) }
 {
     items_of(alloc, run)

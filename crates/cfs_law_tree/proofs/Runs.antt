@@ -1,18 +1,14 @@
 -- Runs, turn by turn.
-use Rattle.std.proofs.Common.{◌≡◌, ℕ, suc, zero, ◌+◌, ◌<◌, List, [], ◌∷◌, ◌++◌, Bool, true, false, ◌==◌, refl, sym, ap, ◌∙◌, subst, map, take, get_or, length, arith, Ok, Some, Result}
-use Rattle.std.specs.Prelude.{IsTrue, replicate, slice_get}
-use Rattle.std.specs.List.{list_any, list_all}
+use Rattle.std.proofs.Common.{◌≡◌, ℕ, suc, zero, ◌+◌, ◌<◌, List, [], ◌∷◌, ◌++◌, Bool, true, refl, sym, ap, ◌∙◌, subst, map, take, arith, Ok, Some, Result}
+use Rattle.std.specs.Prelude.{replicate, slice_get}
 use Rattle.std.proofs.lemmas.List.{replicate_more, map-append, take-map, length-map, length-replicate}
-use Rattle.std.proofs.lemmas.Option.{slice_get-get_or}
-use Rattle.std.proofs.lemmas.List.Folds.{list_all_at}
 use Rattle.cfs_ids.specs.declared.ids.Actor.{Actor}
 use Rattle.cfs_ids.specs.declared.ids.PlaceNo.{PlaceNo}
 use Rattle.cfs_ids.specs.declared.memory.NoMemory.{NoMemory}
 use Rattle.cfs_rules.specs.Facts.{CountsHold, AttributesHold}
 use Rattle.cfs_rules.specs.Worlds.{World, Counts, Setup, turn, turn_asking, asked_next, next_ask, client_of as numbered, opening, run_of, played}
 use Rattle.cfs_laws_places.proofs.Laws.{counts_of as counts_hold, attributes_of as attributes_hold}
-use Rattle.cfs_actor.specs.declared.client_state.ClientState.{ClientState}
-use Rattle.cfs_core.specs.Clients.{members_of, is_member, number_in}
+use Rattle.cfs_core.specs.Clients.{number_in}
 use Rattle.cfs_core.specs.Cores.{AsksFull, counts_of, held_of, world_of}
 use Rattle.cfs_core.specs.declared.service.Core.{Core}
 use Rattle.cfs_view.specs.Held.{Held, log_full}

@@ -3,7 +3,7 @@ use Rattle.std.proofs.Common.{◌≡◌, ℕ, List, [], ◌∷◌, Bool, true, f
 use Rattle.std.specs.Prelude.{if◌then◌else◌, ◌==◌, nat_lt, Option, Some, None}
 use Rattle.std.proofs.lemmas.Bool.Decides.{nat_tests}
 use Rattle.cfs_ids.specs.declared.ids.PlaceNo.{PlaceNo}
-use Rattle.cfs_ids.specs.declared.call.Call.{Call}
+use Rattle.cfs_ids.specs.declared.call.Reply.{Reply}
 use Rattle.cfs_steps.specs.declared.ask.Ask.{Ask}
 use Rattle.cfs_steps.specs.declared.ask.Ask.TheVariants.{End}
 use Rattle.cfs_steps.specs.declared.entry.Entry.{Entry}
@@ -13,7 +13,7 @@ use Rattle.cfs_steps.specs.declared.moves.Moved.TheVariants.{Move}
 use Rattle.cfs_steps.specs.declared.call_done.CallDone.{CallDone}
 use Rattle.cfs_steps.specs.Asks.{place_of}
 use Rattle.cfs_steps.specs.Phases.{Phase, ask_of}
-use Rattle.cfs_rules.specs.Worlds.{World, Progress, client_of, Setup, first_of, opening, put_index, set_client, hears, step_in, step, turn_of, turn, run_of, played}
+use Rattle.cfs_rules.specs.Worlds.{World, Plan, Ends, Progress, client_of, Setup, first_of, opening, put_index, set_client, hears, step_in, step, turn_of, turn, run_of, played}
 use Rattle.cfs_rules.specs.Places.{number_after}
 use Rattle.cfs_rules.specs.Members.{HasCallers}
 use Rattle.cfs_laws.proofs.Stamps.{moved_in}
@@ -39,40 +39,40 @@ step_sets false false w c p ask number = record { place = place_of ask; entry = 
 
 module _ (setup : Setup) where
   abbrev pub CallersOnly : (ℕ → Progress) → Type 0
-  CallersOnly clients = (i : ℕ) → setup.calls i ≡ [] → IsIdle (clients i)
+  CallersOnly clients = (i : ℕ) → setup.plans i ≡ Ends → IsIdle (clients i)
 
-  set_idle : (clients : ℕ → Progress) (c : ℕ) (p : Progress) → CallersOnly clients → (setup.calls c ≡ [] → IsIdle p) → CallersOnly (set_client clients c p)
+  set_idle : (clients : ℕ → Progress) (c : ℕ) (p : Progress) → CallersOnly clients → (setup.plans c ≡ Ends → IsIdle p) → CallersOnly (set_client clients c p)
   set_idle clients c p h own i none = by_test (i == c) refl
     where
       by_test : (b : Bool) → (i == c) ≡ b → IsIdle (if b then p else clients i)
-      by_test true t = let same : i ≡ c = grind (arith, nat_tests) in own (ap setup.calls (sym same) ∙ none)
+      by_test true t = let same : i ≡ c = grind (arith, nat_tests) in own (ap setup.plans (sym same) ∙ none)
       by_test false t = h i none
 
-  step_idle : (w : World) (c : ℕ) (p : Progress) (ask : Ask) → CallersOnly w.clients → ((place : PlaceNo) (entry : Entry) → setup.calls c ≡ [] → IsIdle (hears p place entry)) → CallersOnly (step w c p ask).clients
+  step_idle : (w : World) (c : ℕ) (p : Progress) (ask : Ask) → CallersOnly w.clients → ((place : PlaceNo) (entry : Entry) → setup.plans c ≡ Ends → IsIdle (hears p place entry)) → CallersOnly (step w c p ask).clients
   step_idle w c p ask h own =
       let sets = step_sets (nat_lt (place_of ask).0 64) (nat_lt (place_of ask).0 128) w c p ask (number_after p.last (w.lasts (place_of ask).0)) in
       subst CallersOnly (sym sets.same) (set_idle w.clients c (hears p sets.place sets.entry) h (own sets.place sets.entry))
 
-  turn_idle : (w : World) (c : ℕ) (ended : Bool) (current : Option Phase) (waiting : List Call) (last puts : ℕ) (done : List CallDone) → CallersOnly w.clients → (setup.calls c ≡ [] → IsIdle (record { current = current; waiting = waiting; ended = ended; last = last; puts = puts; done = done }))
-      → CallersOnly (turn_of setup.counts w c (record { current = current; waiting = waiting; ended = ended; last = last; puts = puts; done = done })).clients
-  turn_idle w c true current waiting last puts done h own = h
-  turn_idle w c false None waiting last puts done h own =
-      step_idle w c (record { current = None; waiting = waiting; ended = false; last = last; puts = puts; done = done }) (End (client_of c)) h (λ place entry none. record { current = refl; done = (own none).done })
-  turn_idle w c false (Some phase) waiting last puts done h own =
-      step_idle w c (record { current = Some phase; waiting = waiting; ended = false; last = last; puts = puts; done = done }) (ask_of (client_of c) (put_index setup.counts (client_of c) puts phase) phase) h (λ place entry none. absurd (not_idle phase (own none).current))
+  turn_idle : (w : World) (c : ℕ) (ended : Bool) (current : Option Phase) (rest : Reply → Plan) (last puts : ℕ) (done : List CallDone) → CallersOnly w.clients → (setup.plans c ≡ Ends → IsIdle (record { current = current; rest = rest; ended = ended; last = last; puts = puts; done = done }))
+      → CallersOnly (turn_of setup.counts w c (record { current = current; rest = rest; ended = ended; last = last; puts = puts; done = done })).clients
+  turn_idle w c true current rest last puts done h own = h
+  turn_idle w c false None rest last puts done h own =
+      step_idle w c (record { current = None; rest = rest; ended = false; last = last; puts = puts; done = done }) (End (client_of c)) h (λ place entry none. record { current = refl; done = (own none).done })
+  turn_idle w c false (Some phase) rest last puts done h own =
+      step_idle w c (record { current = Some phase; rest = rest; ended = false; last = last; puts = puts; done = done }) (ask_of (client_of c) (put_index setup.counts (client_of c) puts phase) phase) h (λ place entry none. absurd (not_idle phase (own none).current))
     where
       not_idle : (q : Phase) → Some q ≡ None → ⊥
       not_idle q e = cc
 
   run_idle : (cs : List ℕ) (w : World) → CallersOnly w.clients → CallersOnly (run_of setup.counts cs w).clients
   run_idle [] w h = h
-  run_idle (c ∷ cs) w h = let p = w.clients c in run_idle cs (turn setup.counts w c) (turn_idle w c p.ended p.current p.waiting p.last p.puts p.done h (h c))
+  run_idle (c ∷ cs) w h = let p = w.clients c in run_idle cs (turn setup.counts w c) (turn_idle w c p.ended p.current p.rest p.last p.puts p.done h (h c))
 
   pub idle_of : (turns : List ℕ) → CallersOnly (played setup turns).clients
   idle_of turns = run_idle turns (opening setup) (λ i none. record { current = ap first_of none; done = refl })
 
   -- so the client of each move has calls
-  pub mover_of : (run : List (PlaceNo × Entry)) (clients : ℕ → Progress) (members : List ℕ) → CallersOnly clients → HasCallers setup.calls members
+  pub mover_of : (run : List (PlaceNo × Entry)) (clients : ℕ → Progress) (members : List ℕ) → CallersOnly clients → HasCallers setup.plans members
       → ((i : ℕ) → ClientPast run i (clients i).done (clients i).current) → (q : ℕ) → HasMover members (moved_in run q)
   mover_of run clients members idle has past q = by_move (moved_in run q) (λ i. (past i).told q)
     where

@@ -53,7 +53,7 @@ module _ (w : World) (known : Known w) (past : Past w) (members : List ℕ) (ris
   moves_of : MovesMatch w.run (world_history members w)
   moves_of = moves_match w.run lines told
 
-module _ (setup : Setup) (good : IsSetup setup) (turns members : List ℕ) (rising : IsRising members) (has : HasCallers setup.calls members) where
+module _ (setup : Setup) (good : IsSetup setup) (turns members : List ℕ) (rising : IsRising members) (has : HasCallers setup.plans members) where
   past_now : Past (played setup turns)
   past_now = past_of setup good turns (known_of setup good)
 

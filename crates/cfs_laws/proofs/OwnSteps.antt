@@ -9,14 +9,14 @@ use Rattle.cfs_ids.specs.declared.ids.Node.{Node}
 use Rattle.cfs_ids.specs.declared.errno.Errno.{Errno}
 use Rattle.cfs_ids.specs.declared.call.Call.{Call}
 use Rattle.cfs_ids.specs.declared.call.Reply.{Reply}
-use Rattle.cfs_ids.specs.declared.call.Reply.TheVariants.{Moved as MovedReply, Node as NodeReply, Rows as RowsReply, Refused}
+use Rattle.cfs_ids.specs.declared.call.Reply.TheVariants.{Moved as MovedReply, Refused}
 use Rattle.cfs_ids.specs.Namespace.{answer}
 use Rattle.cfs_steps.specs.declared.entry.Entry.{Entry}
 use Rattle.cfs_steps.specs.declared.moves.Move.{Move as MoveFacts}
 use Rattle.cfs_steps.specs.declared.call_done.CallDone.{CallDone}
 use Rattle.cfs_steps.specs.declared.line.Line.{Line}
 use Rattle.cfs_steps.specs.Phases.{Phase, Inserting, Settling, TakingBack, maker}
-use Rattle.cfs_rules.specs.Worlds.{client_of, begun_of, first_of}
+use Rattle.cfs_rules.specs.Worlds.{Plan, Ends, Calls, client_of, begun_of, first_of}
 use Rattle.cfs_rules.specs.Histories.{position_of, line_of, outcome_of, move_from, unfinished, begun_line, begun_lines}
 use Rattle.cfs_rules.specs.Legal.{Follows, Positions}
 use Rattle.cfs_laws.proofs.Lists.{Every, Every-append, Pairs-end}
@@ -36,24 +36,24 @@ done_lines-end : (run : List (PlaceNo × Entry)) (c : ℕ) (done : List CallDone
 done_lines-end run c [] d = refl
 done_lines-end run c (x ∷ done) d = ap (λ l. line_of run (client_of c) x ∷ l) (done_lines-end run c done d)
 
-begun-first : (run : List (PlaceNo × Entry)) (c : ℕ) (calls : List Call) → begun_lines run (client_of c) (begun_of (first_of calls)) ≡ []
-begun-first run c [] = refl
-begun-first run c (call ∷ calls) = refl
+begun-first : (run : List (PlaceNo × Entry)) (c : ℕ) (plan : Plan) → begun_lines run (client_of c) (begun_of (first_of plan)) ≡ []
+begun-first run c Ends = refl
+begun-first run c (Calls call next) = refl
 
-phase-first : (run : List (PlaceNo × Entry)) (c : ℕ) (lines : List Line) (calls : List Call) → PhasePast run c lines (first_of calls)
-phase-first run c lines [] = tt
-phase-first run c lines (call ∷ calls) = tt
+phase-first : (run : List (PlaceNo × Entry)) (c : ℕ) (lines : List Line) (plan : Plan) → PhasePast run c lines (first_of plan)
+phase-first run c lines Ends = tt
+phase-first run c lines (Calls call next) = tt
 
 -- a call finishes, and its line tells of the move that the line of the begun call told of
-finish : (run : List (PlaceNo × Entry)) (c : ℕ) (done : List CallDone) (current : Option Phase) (calls : List Call) (d : CallDone) → ClientPast run c done current
+finish : (run : List (PlaceNo × Entry)) (c : ℕ) (done : List CallDone) (current : Option Phase) (plan : Plan) (d : CallDone) → ClientPast run c done current
     → StampsStand run d → IsPlaced (line_of run (client_of c) d) → EndsIn (length run) (line_of run (client_of c) d)
     → Every (EndsIn (position_of d.first run)) (done_lines run c done) → IsRight run (line_of run (client_of c) d)
     → ((q : ℕ) → keys_at q (line_of run (client_of c) d ∷ []) ≡ keys_at q (begun_lines run (client_of c) (begun_of current)))
-    → ClientPast run c (done ++ d ∷ []) (first_of calls)
-finish run c done current calls d h stand placed ends after right keys = record {
+    → ClientPast run c (done ++ d ∷ []) (first_of plan)
+finish run c done current plan d h stand placed ends after right keys = record {
   there = Every-append (StampsStand run) done (d ∷ []) h.there (stand, tt);
   lines = subst (LinesHold run) (sym (done_lines-end run c done d)) (LinesHold-end run (done_lines run c done) (line_of run (client_of c) d) h.lines placed ends after right);
-  phase = phase-first run c (done_lines run c (done ++ d ∷ [])) calls;
+  phase = phase-first run c (done_lines run c (done ++ d ∷ [])) plan;
   told = λ q.
       ap (keys_at q) all_same
       ∙ keys_at-append q (done_lines run c done) (line_of run (client_of c) d ∷ [])
@@ -62,8 +62,8 @@ finish run c done current calls d h stand placed ends after right keys = record 
       ∙ h.told q;
 }
   where
-    all_same : own_lines run c (done ++ d ∷ []) (first_of calls) ≡ done_lines run c done ++ line_of run (client_of c) d ∷ []
-    all_same = ap (λ b. done_lines run c (done ++ d ∷ []) ++ b) (begun-first run c calls) ∙ append-none (done_lines run c (done ++ d ∷ [])) ∙ done_lines-end run c done d
+    all_same : own_lines run c (done ++ d ∷ []) (first_of plan) ≡ done_lines run c done ++ line_of run (client_of c) d ∷ []
+    all_same = ap (λ b. done_lines run c (done ++ d ∷ []) ++ b) (begun-first run c plan) ∙ append-none (done_lines run c (done ++ d ∷ [])) ∙ done_lines-end run c done d
 
 -- ---- a call that ends without a move
 abbrev pub IsReply : Reply → Type 0
@@ -72,15 +72,11 @@ IsReply _ = Unit {0}
 
 replied_placed : (reply : Reply) (first at last : ℕ) → IsReply reply → first ≤ at → at ≤ last → Positions (outcome_of reply 0 None) first (Some at) (Some last)
 replied_placed MovedReply first at last is le to = absurd is
-replied_placed (NodeReply node) first at last is le to = ((λ e. cc), le, omega arith)
-replied_placed (RowsReply rows) first at last is le to = ((λ e. cc), le, omega arith)
-replied_placed (Refused errno) first at last is le to = ((λ e. cc), le, omega arith)
+replied_placed reply first at last is le to = ((λ e. cc), le, omega arith)
 
 replied_right : (run : List (PlaceNo × Entry)) (line : Line) (reply : Reply) (at : ℕ) → IsReply reply → at ≤ length run → answer (space_at run at) line.call ≡ reply → RightAt run line (outcome_of reply 0 None) (Some at)
 replied_right run line MovedReply at is le h = absurd is
-replied_right run line (NodeReply node) at is le h = (le, h)
-replied_right run line (RowsReply rows) at is le h = (le, h)
-replied_right run line (Refused errno) at is le h = (le, h)
+replied_right run line reply at is le h = (le, h)
 
 none_if : (b : Bool) (ks : List MoveFacts) → ks ≡ [] → (if b then ks else []) ++ [] ≡ []
 none_if true ks h = rw h refl
@@ -88,23 +84,21 @@ none_if false ks h = refl
 
 replied_keys : (line : Line) (reply : Reply) → IsReply reply → keys_of line (outcome_of reply 0 None) ≡ []
 replied_keys line MovedReply is = absurd is
-replied_keys line (NodeReply node) is = refl
-replied_keys line (RowsReply rows) is = refl
-replied_keys line (Refused errno) is = refl
+replied_keys line reply is = refl
 
-pub finish_replied : (run : List (PlaceNo × Entry)) (c : ℕ) (done : List CallDone) (current : Option Phase) (calls : List Call) (call : Call) (first at last : Stamp) (reply : Reply)
+pub finish_replied : (run : List (PlaceNo × Entry)) (c : ℕ) (done : List CallDone) (current : Option Phase) (plan : Plan) (call : Call) (first at last : Stamp) (reply : Reply)
     → ClientPast run c done current → IsReply reply
     → Begun run (done_lines run c done) first → stands at run ≡ true → stands last run ≡ true
     → position_of first run ≤ position_of at run → position_of at run ≤ position_of last run
     → answer (space_at run (position_of at run)) call ≡ reply
     → ((q : ℕ) → keys_at q (begun_lines run (client_of c) (begun_of current)) ≡ [])
-    → ClientPast run c (done ++ record { call = call; first = first; at = Before at; last = last; reply = reply; ts = 0; made = None } ∷ []) (first_of calls)
-finish_replied run c done current calls call first at last reply h is begun at_there last_there le to answered none =
+    → ClientPast run c (done ++ record { call = call; first = first; at = Before at; last = last; reply = reply; ts = 0; made = None } ∷ []) (first_of plan)
+finish_replied run c done current plan call first at last reply h is begun at_there last_there le to answered none =
     let d : CallDone = record { call = call; first = first; at = Before at; last = last; reply = reply; ts = 0; made = None } in
     let first_within = position-within first run begun.there in
     let at_within = position-within at run at_there in
     let last_within = position-within last run last_there in
-    finish run c done current calls d h
+    finish run c done current plan d h
     (record { first = begun.there; at = at_there; last = last_there })
     (replied_placed reply (position_of first run) (position_of at run) (position_of last run) is le to)
     (first_within, last_within)
@@ -113,16 +107,16 @@ finish_replied run c done current calls call first at last reply h is begun at_t
     (λ q. none_if (position_of at run == q) _ (replied_keys (line_of run (client_of c) d) reply is) ∙ sym (none q))
 
 -- ---- a call that ends with its move
-pub finish_moved : (run : List (PlaceNo × Entry)) (c : ℕ) (done : List CallDone) (calls : List Call) (dir : DirId) (name : List ℕ) (node : Node) (ts : ℕ) (first at last : Stamp)
+pub finish_moved : (run : List (PlaceNo × Entry)) (c : ℕ) (done : List CallDone) (plan : Plan) (dir : DirId) (name : List ℕ) (node : Node) (ts : ℕ) (first at last : Stamp)
     → ClientPast run c done (Some (Settling dir name node ts first at))
     → stands last run ≡ true → position_of at run ≤ position_of last run
-    → ClientPast run c (done ++ record { call = maker dir name node; first = first; at = Step at; last = last; reply = MovedReply; ts = ts; made = Some node } ∷ []) (first_of calls)
-finish_moved run c done calls dir name node ts first at last h last_there to =
+    → ClientPast run c (done ++ record { call = maker dir name node; first = first; at = Step at; last = last; reply = MovedReply; ts = ts; made = Some node } ∷ []) (first_of plan)
+finish_moved run c done plan dir name node ts first at last h last_there to =
     let settling : IsSettling run c (done_lines run c done) node ts first at = h.phase in
     let d : CallDone = record { call = maker dir name node; first = first; at = Step at; last = last; reply = MovedReply; ts = ts; made = Some node } in
     let first_within = position-within first run settling.begun.there in
     let last_within = position-within last run last_there in
-    finish run c done (Some (Settling dir name node ts first at)) calls d h
+    finish run c done (Some (Settling dir name node ts first at)) plan d h
     (record { first = settling.begun.there; at = settling.there; last = last_there })
     (settling.order, to)
     (first_within, last_within)

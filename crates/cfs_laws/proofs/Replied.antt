@@ -14,7 +14,7 @@ use Rattle.cfs_ids.specs.Namespace.{answer}
 use Rattle.cfs_steps.specs.declared.entry.Entry.{Entry}
 use Rattle.cfs_steps.specs.declared.call_done.CallDone.{CallDone}
 use Rattle.cfs_steps.specs.Phases.{Asking, Inserting, Settling, TakingBack, maker}
-use Rattle.cfs_rules.specs.Worlds.{first_of}
+use Rattle.cfs_rules.specs.Worlds.{Plan, first_of}
 use Rattle.cfs_rules.specs.Histories.{is_at, position_of}
 use Rattle.cfs_laws.proofs.Lists.{Every}
 use Rattle.cfs_laws.proofs.Stamps.{stands, space_at, IsFresh, position-within, position-new, stands-grown, stands-new}
@@ -30,10 +30,10 @@ module _ (run : List (PlaceNo × Entry)) (e : PlaceNo × Entry) (c : ℕ) (done 
   space_now = ap (space_at (e ∷ run)) (position-new s run e is) ∙ space_at-before e run (length run) (omega arith) ∙ space_at-now run
 
   -- a call that is answered at its only step
-  pub answer_now : (calls : List Call) (call : Call) (reply : Reply) → ClientPast run c done (Some (Asking call)) → IsReply reply → answer (space run) call ≡ reply
-      → ClientPast (e ∷ run) c (done ++ record { call = call; first = s; at = Before s; last = s; reply = reply; ts = 0; made = None } ∷ []) (first_of calls)
-  answer_now calls call reply h is_reply right =
-      finish_replied (e ∷ run) c done (Some (Asking call)) calls call s s s reply
+  pub answer_now : (plan : Plan) (call : Call) (reply : Reply) → ClientPast run c done (Some (Asking call)) → IsReply reply → answer (space run) call ≡ reply
+      → ClientPast (e ∷ run) c (done ++ record { call = call; first = s; at = Before s; last = s; reply = reply; ts = 0; made = None } ∷ []) (first_of plan)
+  answer_now plan call reply h is_reply right =
+      finish_replied (e ∷ run) c done (Some (Asking call)) plan call s s s reply
       (ClientPast-grown run e fresh c done (Some (Asking call)) others h) is_reply
       (record { there = stands-new s run e is; after = after }) (stands-new s run e is) (stands-new s run e is)
       (omega arith) (omega arith) (ap (λ n. answer n call) space_now ∙ right) (λ q. refl)
@@ -54,20 +54,20 @@ module _ (run : List (PlaceNo × Entry)) (e : PlaceNo × Entry) (c : ℕ) (done 
       (below_new first inserting.begun.there) (ap (λ n. answer n (maker dir name node)) space_now ∙ right)
 
   -- a create that was refused ends
-  pub end_refused : (calls : List Call) (dir : DirId) (name : List ℕ) (node : Node) (errno : Errno) (first at : Stamp) → ClientPast run c done (Some (TakingBack dir name node errno first at))
-      → ClientPast (e ∷ run) c (done ++ record { call = maker dir name node; first = first; at = Before at; last = s; reply = Refused errno; ts = 0; made = None } ∷ []) (first_of calls)
-  end_refused calls dir name node errno first at h =
+  pub end_refused : (plan : Plan) (dir : DirId) (name : List ℕ) (node : Node) (errno : Errno) (first at : Stamp) → ClientPast run c done (Some (TakingBack dir name node errno first at))
+      → ClientPast (e ∷ run) c (done ++ record { call = maker dir name node; first = first; at = Before at; last = s; reply = Refused errno; ts = 0; made = None } ∷ []) (first_of plan)
+  end_refused plan dir name node errno first at h =
       let before : IsRefused run c (done_lines run c done) dir name node errno first at = h.phase in
       let grown : ClientPast (e ∷ run) c done (Some (TakingBack dir name node errno first at)) = ClientPast-grown run e fresh c done (Some (TakingBack dir name node errno first at)) others h in
       let now : IsRefused (e ∷ run) c (done_lines (e ∷ run) c done) dir name node errno first at = grown.phase in
-      finish_replied (e ∷ run) c done (Some (TakingBack dir name node errno first at)) calls (maker dir name node) first at s (Refused errno)
+      finish_replied (e ∷ run) c done (Some (TakingBack dir name node errno first at)) plan (maker dir name node) first at s (Refused errno)
       grown tt now.begun now.there (stands-new s run e is) now.order (below_new at before.there) now.answered
       (λ q. begun_without (e ∷ run) c (maker dir name node) first q now.none)
 
   -- a create that has moved ends
-  pub end_moved : (calls : List Call) (dir : DirId) (name : List ℕ) (node : Node) (ts : ℕ) (first at : Stamp) → ClientPast run c done (Some (Settling dir name node ts first at))
-      → ClientPast (e ∷ run) c (done ++ record { call = maker dir name node; first = first; at = Step at; last = s; reply = MovedReply; ts = ts; made = Some node } ∷ []) (first_of calls)
-  end_moved calls dir name node ts first at h =
+  pub end_moved : (plan : Plan) (dir : DirId) (name : List ℕ) (node : Node) (ts : ℕ) (first at : Stamp) → ClientPast run c done (Some (Settling dir name node ts first at))
+      → ClientPast (e ∷ run) c (done ++ record { call = maker dir name node; first = first; at = Step at; last = s; reply = MovedReply; ts = ts; made = Some node } ∷ []) (first_of plan)
+  end_moved plan dir name node ts first at h =
       let before : IsSettling run c (done_lines run c done) node ts first at = h.phase in
-      finish_moved (e ∷ run) c done calls dir name node ts first at s
+      finish_moved (e ∷ run) c done plan dir name node ts first at s
       (ClientPast-grown run e fresh c done (Some (Settling dir name node ts first at)) others h) (stands-new s run e is) (below_new at before.there)

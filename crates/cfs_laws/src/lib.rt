@@ -18,11 +18,11 @@ ghost use Rattle.cfs_laws.specs.EachLine.{HasEachLine};
 /// stand at one position, and each reply is the sequential namespace's so far. The namespace that it ends in is the
 /// tree of the places, and each move of the run stands in exactly one line.
 pub fn one_legal_history()
-    ensures legal { (setup : Setup) → IsSetup setup → (turns members : List ℕ) → IsRising members → HasCallers setup.calls members
+    ensures legal { (setup : Setup) → IsSetup setup → (turns members : List ℕ) → IsRising members → HasCallers setup.plans members
         → IsLegal (world_history members (played setup turns)) }
-    ensures last { (setup : Setup) → IsSetup setup → (turns members : List ℕ) → IsRising members → HasCallers setup.calls members
+    ensures last { (setup : Setup) → IsSetup setup → (turns members : List ℕ) → IsRising members → HasCallers setup.plans members
         → final (world_history members (played setup turns)) ≡ tree (played setup turns).shard (played setup turns).store }
-    ensures moves { (setup : Setup) → IsSetup setup → (turns members : List ℕ) → IsRising members → HasCallers setup.calls members
+    ensures moves { (setup : Setup) → IsSetup setup → (turns members : List ℕ) → IsRising members → HasCallers setup.plans members
         → MovesMatch (played setup turns).run (world_history members (played setup turns)) }
 {}
 

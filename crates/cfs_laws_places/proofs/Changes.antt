@@ -30,7 +30,7 @@ phase_keeps : (shard shard' : Shard) (store store' : Store) (i : ℕ)
     → ((node : Node) (ts : ℕ) → Owns shard store i node false → IsNew shard store node ts → IsNew shard' store' node ts)
     → (o : Option Phase) → CurrentHolds shard store i o → CurrentHolds shard' store' i o
 phase_keeps shard shard' store store' i shows owns news None h = h
-phase_keeps shard shard' store store' i shows owns news (Some (Asking call)) h = shows (dir_of call).0 h
+phase_keeps shard shard' store store' i shows owns news (Some (Asking call)) h = record { built = h.built; sees = shows (dir_of call).0 h.sees }
 phase_keeps shard shard' store store' i shows owns news (Some (Inserting dir name node ts first)) h = record { sees = shows dir.0 h.sees; owns = owns node false h.owns; new = news node ts h.owns h.new }
 phase_keeps shard shard' store store' i shows owns news (Some (Settling dir name node ts first at)) h = owns node true h
 phase_keeps shard shard' store store' i shows owns news (Some (TakingBack dir name node errno first at)) h = owns node false h

@@ -1,5 +1,5 @@
 -- What holds of every world, in the form that each turn keeps.
-use Rattle.std.proofs.Common.{◌≡◌, ◌≢◌, ℕ, suc, ◌+◌, ◌*◌, ◌<◌, List, [], ◌∷◌, Bool, true, false, cond, refl, sym, ◌∙◌, subst, arith, ◌⊎◌}
+use Rattle.std.proofs.Common.{◌≡◌, ◌≢◌, ℕ, suc, ◌+◌, ◌*◌, ◌<◌, List, ◌∷◌, Bool, true, false, cond, refl, sym, ◌∙◌, subst, arith, ◌⊎◌}
 use Rattle.std.specs.Prelude.{if◌then◌else◌, ◌||◌, ◌==◌, Option, Some, None}
 use Rattle.std.proofs.lemmas.Bool.Decides.{nat_tests}
 use Rattle.std.specs.List.{list_any}
@@ -11,7 +11,7 @@ use Rattle.cfs_ids.specs.declared.ids.DirId.{DirId}
 use Rattle.cfs_ids.specs.declared.ids.Client.{Client}
 use Rattle.cfs_ids.specs.declared.ids.Node.{Node}
 use Rattle.cfs_ids.specs.declared.ids.Node.TheVariants.{Dir, File}
-use Rattle.cfs_ids.specs.declared.call.Call.{Call}
+use Rattle.cfs_ids.specs.declared.call.Reply.{Reply}
 use Rattle.cfs_ids.specs.Maps.{Names, Numbers, how_many}
 use Rattle.cfs_ids.specs.Namespace.{is_node}
 use Rattle.cfs_ids.proofs.MapLemmas.{how_many-put, list_any-put}
@@ -22,9 +22,10 @@ use Rattle.cfs_steps.specs.declared.contents.FileRec.{FileRec}
 use Rattle.cfs_steps.specs.declared.moves.Moved.{Moved}
 use Rattle.cfs_steps.specs.Phases.{Phase, Asking, Inserting, Settling, TakingBack, Finished}
 use Rattle.cfs_rules.specs.Places.{Shard, Store}
-use Rattle.cfs_rules.specs.Worlds.{World, Progress, client_of, set_client, first_of, rest_of, dir_of, AreInRoot}
+use Rattle.cfs_rules.specs.Worlds.{World, Progress, Plan, client_of, set_client, knows, with_told, KeepsTo}
 use Rattle.cfs_rules.specs.Trees.{is_shown, tree, facts_of}
 use Rattle.cfs_rules.specs.Facts.{CountsHold, MovesAllowed, IsAllowed, after_moved, space}
+use Rattle.cfs_rules.specs.Known.{Begins}
 
 -- ---- files and directories alike
 -- whether a row names the node
@@ -61,7 +62,7 @@ pub record MayInsert (shard : Shard) (store : Store) (c : ℕ) (dir : DirId) (no
 
 -- what a client in a phase may rely on
 abbrev pub PhaseHolds : Shard → Store → ℕ → Phase → Type 0
-PhaseHolds shard store c (Asking call) = is_shown shard (dir_of call).0 ≡ true
+PhaseHolds shard store c (Asking call) = Begins shard call
 PhaseHolds shard store c (Inserting dir name node ts first) = MayInsert shard store c dir node ts
 PhaseHolds shard store c (Settling dir name node ts first at) = Owns shard store c node true
 PhaseHolds shard store c (TakingBack dir name node errno first at) = Owns shard store c node false
@@ -70,6 +71,17 @@ PhaseHolds shard store c (Finished done) = ⊥
 abbrev pub CurrentHolds : Shard → Store → ℕ → Option Phase → Type 0
 CurrentHolds shard store c None = Unit {0}
 CurrentHolds shard store c (Some phase) = PhaseHolds shard store c phase
+
+-- the directories that a client knows are in the tree, and it keeps to them and to what its call's reply tells of
+pub record Follows (shard : Shard) (rest : Reply → Plan) : Type 0 where
+  pub dirs : List ℕ
+  pub shown : (d : ℕ) → knows dirs d ≡ true → is_shown shard d ≡ true
+  pub keeps : (reply : Reply) → KeepsTo (with_told reply dirs) (rest reply)
+
+-- what holds of a client: of the call that it makes, and of what it does next
+pub record ClientHolds (shard : Shard) (store : Store) (c : ℕ) (p : Progress) : Type 0 where
+  pub current : CurrentHolds shard store c p.current
+  pub follows : Follows shard p.rest
 
 pub record PlacesHold (shard : Shard) (store : Store) (lasts : ℕ → ℕ) : Type 0 where
   pub counts : CountsHold shard
@@ -80,52 +92,41 @@ pub record PlacesHold (shard : Shard) (store : Store) (lasts : ℕ → ℕ) : Ty
 
 pub record Holds (w : World) : Type 0 where
   pub places : PlacesHold w.shard w.store w.lasts
-  pub clients : (i : ℕ) → CurrentHolds w.shard w.store i (w.clients i).current
-  pub waiting : (i : ℕ) → AreInRoot (w.clients i).waiting
+  pub clients : (i : ℕ) → ClientHolds w.shard w.store i (w.clients i)
 
 -- what holds of the moves so far
 pub record Past (w : World) : Type 0 where
   pub same : tree w.shard w.store ≡ space w.run
   pub allowed : MovesAllowed w.run
 
--- a step of c, which made this of the places, keeps what they hold and what the others rely on, and its move makes the
--- new tree of the old
+-- a step of c, which made this of the places, keeps what they hold, the directories of the tree and what the others rely
+-- on, and its move makes the new tree of the old
 pub record Keeps (shard shard' : Shard) (store store' : Store) (lasts : ℕ → ℕ) (c : ℕ) (moved : Option Moved) : Type 0 where
   pub places : PlacesHold shard' store' lasts
+  pub shows : (d : ℕ) → is_shown shard d ≡ true → is_shown shard' d ≡ true
   pub others : (i : ℕ) → i ≢ c → (o : Option Phase) → CurrentHolds shard store i o → CurrentHolds shard' store' i o
   pub to : tree shard' store' ≡ after_moved (tree shard store) moved
   pub may : IsAllowed (tree shard store) moved
 
--- a client that begins its next call relies on the root alone
-root_shown : (shard : Shard) (d : ℕ) → d ≡ 0 → is_shown shard d ≡ true
-root_shown shard d root = rw root refl
+-- what a client knows stays where each directory of the tree stays
+pub follows_keep : (shard shard' : Shard) → ((d : ℕ) → is_shown shard d ≡ true → is_shown shard' d ≡ true) → (rest : Reply → Plan) → Follows shard rest → Follows shard' rest
+follows_keep shard shard' shows rest h = record { dirs = h.dirs; shown = λ d known. shows d (h.shown d known); keeps = h.keeps }
 
-pub first_holds : (shard : Shard) (store : Store) (c : ℕ) (waiting : List Call) → AreInRoot waiting → CurrentHolds shard store c (first_of waiting)
-first_holds shard store c [] h = tt
-first_holds shard store c (call ∷ calls) h = root_shown shard (dir_of call).0 h.0
-
-pub rest_in_root : (waiting : List Call) → AreInRoot waiting → AreInRoot (rest_of waiting)
-rest_in_root [] h = tt
-rest_in_root (call ∷ calls) h = h.1
-
--- a step of c keeps what the others rely on, and gives c what its new phase relies on
+-- a step of c keeps what holds of the others, and gives c what its new progress relies on
 pub clients_keep : (shard shard' : Shard) (store store' : Store) (clients : ℕ → Progress) (c : ℕ) (p : Progress)
+    → ((d : ℕ) → is_shown shard d ≡ true → is_shown shard' d ≡ true)
     → ((i : ℕ) → i ≢ c → (o : Option Phase) → CurrentHolds shard store i o → CurrentHolds shard' store' i o)
-    → CurrentHolds shard' store' c p.current
-    → ((i : ℕ) → CurrentHolds shard store i (clients i).current)
-    → (i : ℕ) → CurrentHolds shard' store' i (set_client clients c p i).current
-clients_keep shard shard' store store' clients c p others own all i = by_test (i == c) refl
+    → ClientHolds shard' store' c p
+    → ((i : ℕ) → ClientHolds shard store i (clients i))
+    → (i : ℕ) → ClientHolds shard' store' i (set_client clients c p i)
+clients_keep shard shard' store store' clients c p shows others own all i = by_test (i == c) refl
   where
-    by_test : (b : Bool) → (i == c) ≡ b → CurrentHolds shard' store' i (if b then p else clients i).current
-    by_test true e = let same : i ≡ c = grind (arith, nat_tests) in subst (λ j. CurrentHolds shard' store' j p.current) (sym same) own
-    by_test false e = let differ : i ≢ c = grind (arith, nat_tests) in others i differ _ (all i)
-
-pub waiting_keep : (clients : ℕ → Progress) (c : ℕ) (p : Progress) → AreInRoot p.waiting → ((i : ℕ) → AreInRoot (clients i).waiting) → (i : ℕ) → AreInRoot (set_client clients c p i).waiting
-waiting_keep clients c p own all i = by_test (i == c)
-  where
-    by_test : (b : Bool) → AreInRoot (if b then p else clients i).waiting
-    by_test true = own
-    by_test false = all i
+    by_test : (b : Bool) → (i == c) ≡ b → ClientHolds shard' store' i (if b then p else clients i)
+    by_test true e = let same : i ≡ c = grind (arith, nat_tests) in subst (λ j. ClientHolds shard' store' j p) (sym same) own
+    by_test false e = let differ : i ≢ c = grind (arith, nat_tests) in record {
+      current = others i differ (clients i).current (all i).current;
+      follows = follows_keep shard shard' shows (clients i).rest (all i).follows;
+    }
 
 -- ---- what a new row changes
 pub how_many-set_row : (rows : Names Row) (p : List ℕ × Row → Bool) (k : List ℕ) (row : Row) → get rows k ≡ None → how_many p (entries (insert rows k row)) ≡ how_many p (entries rows) + cond (p (k, row)) 1 0

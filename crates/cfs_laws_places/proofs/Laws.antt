@@ -1,19 +1,17 @@
 -- What holds after any list of turns.
-use Rattle.std.proofs.Common.{◌≡◌, ◌≢◌, ℕ, ◌<◌, List, [], ◌∷◌, length, Bool, true, false, cond, refl, sym, ◌∙◌, ap, arith, inl, inr}
-use Rattle.std.specs.Prelude.{◌||◌, ◌==◌, Option, Some, None}
+use Rattle.std.proofs.Common.{◌≡◌, ◌≢◌, ℕ, ◌<◌, List, [], ◌∷◌, Bool, true, false, cond, refl, sym, ◌∙◌, ap, arith, inl, inr}
+use Rattle.std.specs.Prelude.{◌==◌, Option, Some, None}
 use Rattle.std.proofs.lemmas.Bool.Decides.{nat_tests}
 use Rattle.std.specs.Option.{option_map}
-use Rattle.std.specs.List.{list_any}
-use Rattle.std.specs.declared.cmp.Ordering.{Ordering}
-use Rattle.std.specs.Ordering.{nat_cmp, is_eq}
+use Rattle.std.specs.Ordering.{nat_cmp}
 use Rattle.std.specs.Cmp.{nat_cmp_total}
 use Rattle.std.specs.Cmp.Lexicographic.{slice_cmp}
-use Rattle.std.specs.FinMap.{get, empty, entries, find, get-entries, len-entries, len-empty, get-empty, same_map, nat_cmp-IsAntisymmetric}
+use Rattle.std.specs.FinMap.{get, empty, entries, get-empty, same_map, nat_cmp-IsAntisymmetric}
 use Rattle.cfs_ids.specs.declared.ids.Client.{Client}
 use Rattle.cfs_ids.specs.declared.ids.Node.{Node}
 use Rattle.cfs_ids.specs.declared.ids.Node.TheVariants.{Dir, File}
 use Rattle.cfs_ids.specs.Maps.{Names}
-use Rattle.cfs_ids.specs.Namespace.{is_node, Directory, FileFacts, empty_root}
+use Rattle.cfs_ids.specs.Namespace.{Directory, FileFacts, empty_root}
 use Rattle.cfs_steps.specs.declared.contents.Row.{Row}
 use Rattle.cfs_steps.specs.declared.contents.DirRec.{DirRec}
 use Rattle.cfs_steps.specs.declared.contents.FileRec.{FileRec}
@@ -24,12 +22,13 @@ use Rattle.cfs_rules.specs.Trees.{is_shown, tree, directory_of, facts_of, is_cou
 use Rattle.cfs_rules.specs.Facts.{CountsHold, Counted, HasRecord, AttributesHold, MovesAllowed, Unlocked, after_moved, space}
 use Rattle.cfs_rules.specs.Known.{Known, Sees}
 use Rattle.cfs_laws_places.specs.Turns.{GrowsByOne, KeepsUnmoved, KeepsStill}
-use Rattle.cfs_laws_places.proofs.Invariant.{owner_at, Has, number_of, CurrentHolds, Holds, Past, first_holds, rest_in_root, from_insert, get-insert_same, get-insert_other}
-use Rattle.cfs_laws_places.proofs.Nodes.{names_same}
+use Rattle.cfs_laws_places.proofs.Invariant.{owner_at, Has, number_of, CurrentHolds, Holds, Past, from_insert, get-insert_same, get-insert_other}
+use Rattle.cfs_laws_places.proofs.Nodes.{named_of_row}
+use Rattle.cfs_laws_places.proofs.Plans.{root_shown, starts_hold}
 use Rattle.cfs_ids.proofs.Entries.{entries-empty}
 use Rattle.cfs_rules.proofs.Locks.{opening-unlocked, played-unlocked}
 use Rattle.cfs_rules.proofs.TreeLookups.{get-tree_dirs, get-tree_files}
-use Rattle.cfs_laws_places.proofs.Trees.{no_names, or_true}
+use Rattle.cfs_laws_places.proofs.Trees.{no_names}
 use Rattle.cfs_laws_places.proofs.Told.{lookup_told, list_told, make_told}
 use Rattle.cfs_laws_places.proofs.Turns.{next_of, run_keeps, run_past, shown_has}
 
@@ -71,8 +70,7 @@ opening_holds setup good = record {
     root = ap (option_map (λ (r : DirRec). r.owner)) (get-insert_same (empty {X = DirRec} {R = nat_cmp}) 0 root_rec);
     known = λ node owner e. let low = opening_known node owner e in omega arith;
   };
-  clients = λ i. first_holds opening_shard empty i (setup.calls i) (good.calls i);
-  waiting = λ i. rest_in_root (setup.calls i) (good.calls i);
+  clients = λ i. starts_hold opening_shard empty i (0 ∷ []) (root_shown opening_shard) (setup.plans i) (good.plans i);
 }
 
 opening_tree : tree opening_shard empty ≡ empty_root
@@ -115,20 +113,11 @@ known_by w free h past = record {
   same = past.same;
   allowed = past.allowed;
   free = free;
-  sees = λ c. sees_of w.shard w.store c (w.clients c).current (h.clients c);
+  sees = λ c. sees_of w.shard w.store c (w.clients c).current (h.clients c).current;
   lookup = lookup_told w.shard w.store (λ d name row e. shown_has w.shard w.store w.lasts h.places d (h.places.housed d name row e));
   listed = list_told w.shard w.store;
   make = make_told w.shard w.store;
 }
-
--- a row's node is named
-named_of_row : (es : List (List ℕ × Row)) (k : List ℕ) (row : Row) → find (slice_cmp nat_cmp) k es ≡ Some row → list_any (λ e. is_node row.node e.1.node) es ≡ true
-named_of_row [] k row e = cc
-named_of_row (x ∷ es) k row e = by_test (is_eq (slice_cmp nat_cmp k x.0)) e (named_of_row es k row)
-  where
-    by_test : (b : Bool) → cond b (Some x.1) (find (slice_cmp nat_cmp) k es) ≡ Some row → (find (slice_cmp nat_cmp) k es ≡ Some row → list_any (λ e. is_node row.node e.1.node) es ≡ true) → (is_node row.node x.1.node || list_any (λ e. is_node row.node e.1.node) es) ≡ true
-    by_test true e rest = let same : x.1 ≡ row = cc in ap (λ (r : Row). is_node row.node r.node || list_any (λ e. is_node row.node e.1.node) es) same ∙ ap (λ b. b || list_any (λ e. is_node row.node e.1.node) es) (names_same row.node)
-    by_test false e rest = ap (λ b. is_node row.node x.1.node || b) (rest e) ∙ or_true (is_node row.node x.1.node)
 
 has_record : (shard : Shard) (store : Store) (node : Node) → Has shard store node → HasRecord shard store node
 has_record shard store (File f) has = by_rec (get store f.0) refl has.1
@@ -143,7 +132,7 @@ has_record shard store (Dir d) has = by_rec (get shard.recs d.0) refl has.1
     by_rec (Some r) is e = (r, is)
 
 attributes_by : (w : World) → Holds w → AttributesHold w.shard w.store
-attributes_by w h k row e = has_record w.shard w.store row.node (h.places.named row.node (named_of_row (entries w.shard.rows) k row (sym (get-entries w.shard.rows k) ∙ e)))
+attributes_by w h k row e = has_record w.shard w.store row.node (h.places.named row.node (named_of_row w.shard k row e))
 
 unmoved_by : (w w' : World) → Past w → Past w' → KeepsUnmoved w w'
 unmoved_by w w' past past' e run none = past'.same ∙ ap space run ∙ ap (after_moved (space w.run)) none ∙ sym past.same

@@ -2,6 +2,7 @@ pub mod Changes
 pub mod Invariant
 pub mod Laws
 pub mod Nodes
+pub mod Plans
 pub mod Records
 pub mod Told
 pub mod Trees

@@ -1,23 +1,22 @@
 -- Nodes by their names, and the directories that no row lies in.
 use Rattle.std.proofs.Common.{◌≡◌, ◌≢◌, ℕ, List, [], ◌∷◌, Bool, true, false, cond, refl, sym, ◌∙◌, ap, arith, ◌⊎◌, inl, inr}
-use Rattle.std.specs.Prelude.{◌||◌, ◌&&◌, ◌==◌, Option, Some, None}
+use Rattle.std.specs.Prelude.{◌||◌, ◌==◌, Option, Some, None}
 use Rattle.std.proofs.lemmas.Bool.Decides.{nat_tests}
 use Rattle.std.specs.List.{list_any}
 use Rattle.std.specs.Ordering.{nat_cmp, is_eq}
-use Rattle.std.proofs.lemmas.Cmp.{tied_itself}
-use Rattle.std.specs.Cmp.Lexicographic.{slice_cmp, nat_list_cmp_total}
+use Rattle.std.specs.Cmp.Lexicographic.{slice_cmp}
 use Rattle.std.specs.FinMap.{get, entries, find, get-entries}
 use Rattle.cfs_ids.specs.declared.ids.DirId.{DirId}
 use Rattle.cfs_ids.specs.declared.ids.Client.{Client}
 use Rattle.cfs_ids.specs.declared.ids.Node.{Node}
 use Rattle.cfs_ids.specs.declared.ids.Node.TheVariants.{Dir, File}
-use Rattle.cfs_ids.specs.Maps.{lies_in, how_many}
-use Rattle.cfs_ids.specs.Namespace.{is_node, is_dir}
+use Rattle.cfs_ids.specs.Namespace.{is_node}
 use Rattle.cfs_steps.specs.declared.contents.Row.{Row}
 use Rattle.cfs_rules.specs.Places.{Shard, Store}
 use Rattle.cfs_rules.specs.Worlds.{client_of}
 use Rattle.cfs_rules.specs.Trees.{is_shown}
-use Rattle.cfs_laws_places.proofs.Invariant.{owner_at, Owns, PlacesHold}
+use Rattle.cfs_laws_places.proofs.Invariant.{is_named_node, owner_at, Owns, PlacesHold}
+use Rattle.cfs_laws_places.proofs.Trees.{or_true}
 
 -- ---- a name stands for one node
 pub names_true : (x y : Node) → is_node x y ≡ true → x ≡ y
@@ -36,6 +35,18 @@ names_other x y differ = by_test (is_node x y) refl
     by_test : (b : Bool) → is_node x y ≡ b → b ≡ false
     by_test true e = absurd (differ (names_true x y e))
     by_test false e = refl
+
+-- a row's node is named
+named_in : (es : List (List ℕ × Row)) (k : List ℕ) (row : Row) → find (slice_cmp nat_cmp) k es ≡ Some row → list_any (λ e. is_node row.node e.1.node) es ≡ true
+named_in [] k row e = cc
+named_in (x ∷ es) k row e = by_test (is_eq (slice_cmp nat_cmp k x.0)) e (named_in es k row)
+  where
+    by_test : (b : Bool) → cond b (Some x.1) (find (slice_cmp nat_cmp) k es) ≡ Some row → (find (slice_cmp nat_cmp) k es ≡ Some row → list_any (λ e. is_node row.node e.1.node) es ≡ true) → (is_node row.node x.1.node || list_any (λ e. is_node row.node e.1.node) es) ≡ true
+    by_test true e rest = let same : x.1 ≡ row = cc in ap (λ (r : Row). is_node row.node r.node || list_any (λ e. is_node row.node e.1.node) es) same ∙ ap (λ b. b || list_any (λ e. is_node row.node e.1.node) es) (names_same row.node)
+    by_test false e rest = ap (λ b. is_node row.node x.1.node || b) (rest e) ∙ or_true (is_node row.node x.1.node)
+
+pub named_of_row : (shard : Shard) (k : List ℕ) (row : Row) → get shard.rows k ≡ Some row → is_named_node shard row.node ≡ true
+named_of_row shard k row there = named_in (entries shard.rows) k row (sym (get-entries shard.rows k) ∙ there)
 
 -- a node is another one, or it is not
 pub same_or_not : (x y : Node) → (x ≡ y) ⊎ (x ≢ y)

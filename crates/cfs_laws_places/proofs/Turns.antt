@@ -13,9 +13,9 @@ use Rattle.cfs_ids.specs.declared.ids.Stamp.{Stamp}
 use Rattle.cfs_ids.specs.declared.ids.Node.{Node}
 use Rattle.cfs_ids.specs.declared.ids.Node.TheVariants.{Dir, File}
 use Rattle.cfs_ids.specs.declared.errno.Errno.{Errno}
-use Rattle.cfs_ids.specs.declared.call.Call.{Call}
 use Rattle.cfs_ids.specs.declared.call.Call.TheVariants.{Lookup, List as ListCall, Create, Mkdir}
-use Rattle.cfs_ids.specs.declared.call.Reply.TheVariants.{Moved as MovedReply}
+use Rattle.cfs_ids.specs.declared.call.Reply.{Reply}
+use Rattle.cfs_ids.specs.declared.call.Reply.TheVariants.{Moved as MovedReply, Node as NodeReply}
 use Rattle.cfs_ids.specs.Maps.{Numbers, row_key}
 use Rattle.cfs_ids.specs.Namespace.{answer, after}
 use Rattle.cfs_steps.specs.declared.contents.Row.{Row}
@@ -23,25 +23,27 @@ use Rattle.cfs_steps.specs.declared.contents.DirRec.{DirRec}
 use Rattle.cfs_steps.specs.declared.contents.FileRec.{FileRec}
 use Rattle.cfs_steps.specs.declared.ask.Ask.{Ask}
 use Rattle.cfs_steps.specs.declared.ask.Ask.TheVariants.{Read, List as ListAsk, Insert, Put, PutDir, Settle, TakeBack}
-use Rattle.cfs_steps.specs.declared.answer.Answer.TheVariants.{Done}
+use Rattle.cfs_steps.specs.declared.answer.Answer.{Answer}
+use Rattle.cfs_steps.specs.declared.answer.Answer.TheVariants.{NoDir, Exists, Done}
 use Rattle.cfs_steps.specs.declared.entry.Entry.{Entry}
 use Rattle.cfs_steps.specs.declared.moves.Moved.{Moved}
 use Rattle.cfs_steps.specs.declared.moves.Moved.TheVariants.{Move}
 use Rattle.cfs_steps.specs.declared.call_done.CallDone.{CallDone}
 use Rattle.cfs_steps.specs.Asks.{place_of, home_of}
-use Rattle.cfs_steps.specs.Phases.{Phase, Asking, Inserting, Settling, TakingBack, Finished, heard, maker, shard_place, store_place}
+use Rattle.cfs_steps.specs.Phases.{Phase, Asking, Inserting, Settling, TakingBack, Finished, heard, maker, has_steps, shard_place, store_place}
 use Rattle.cfs_rules.specs.Places.{Shard, Store, Served, made_at, number_after, with_row, with_recs, inserted, settled, settled_dir, taken_back, taken_back_dir, put_file, put_dir, new_file, new_dir, read_row, list_rows, unmoved, serve_free, serve_store}
-use Rattle.cfs_rules.specs.Worlds.{World, Counts, AreCounts, IsCount, Progress, AreInRoot, client_of, hears, after_entry, with_phase, entry_of, set_last, stamped, after_shard, after_store, step, turn_of, turn, run_of}
+use Rattle.cfs_rules.specs.Worlds.{World, Plan, Counts, AreCounts, IsCount, Progress, client_of, entry_of, set_last, stamped, after_shard, after_store, step, turn_of, turn, run_of}
 use Rattle.cfs_rules.specs.Trees.{tree, is_shown, directory_of, facts_of}
 use Rattle.cfs_rules.specs.Facts.{IsAllowed, after_moved, space, Unlocked}
 use Rattle.cfs_rules.proofs.Locks.{serve_shard-unlocked, turn-unlocked}
 use Rattle.cfs_rules.proofs.Empties.{no_children, no_subdirs}
 use Rattle.cfs_laws_places.specs.Turns.{GrowsByOne}
-use Rattle.cfs_laws_places.proofs.Invariant.{owner_at, number_of, is_named_node, Owns, MayInsert, PhaseHolds, CurrentHolds, PlacesHold, Holds, Past, Keeps, first_holds, rest_in_root, clients_keep, waiting_keep, get-insert_same, get-insert_other, get-remove_other}
-use Rattle.cfs_laws_places.proofs.Nodes.{two_nodes, unshown, no_rows_in}
+use Rattle.cfs_laws_places.proofs.Invariant.{owner_at, number_of, is_named_node, Owns, MayInsert, PhaseHolds, CurrentHolds, PlacesHold, Follows, Holds, Past, Keeps, follows_keep, clients_keep, get-insert_same, get-insert_other, get-remove_other}
+use Rattle.cfs_laws_places.proofs.Nodes.{named_of_row, two_nodes, unshown, no_rows_in}
+use Rattle.cfs_laws_places.proofs.Plans.{TellsShown, PhaseReached, phase_holds}
 use Rattle.cfs_laws_places.proofs.Changes.{Replaces, replaced_others, replaced_places, raise, raised, last_set, insert_places, insert_others, insert_own}
 use Rattle.cfs_rules.proofs.TreeLookups.{get-tree_dirs, get-tree_files}
-use Rattle.cfs_laws_places.proofs.Trees.{dirs_alike, dirs-with_file, dirs-with_dir, files-with_file, files-with_dir, files-put, files-settle, files-take_back}
+use Rattle.cfs_laws_places.proofs.Trees.{stays_shown, dirs_alike, dirs-with_file, dirs-with_dir, files-with_file, files-with_dir, files-put, files-settle, files-take_back}
 use Rattle.cfs_laws_places.proofs.Told.{make_told}
 use Rattle.cfs_laws_places.proofs.Records.{set_file, cut_file, set_dir, cut_dir}
 
@@ -79,18 +81,6 @@ shown_has shard store lasts h d shown = by_test (d == 0) refl shown
     by_test true t e = let root : d ≡ 0 = grind (arith, nat_tests) in rw root (has_dir shard store 0 None h.root)
     by_test false t e = let has = h.named (Dir (record { 0 = d })) e in has_dir shard store d has.0 has.1
 
--- ---- what a client hears leaves its waiting calls in the root
-with_phase_waiting : (p : Progress) (entry : Entry) (phase : Phase) → AreInRoot p.waiting → AreInRoot (with_phase p entry phase).waiting
-with_phase_waiting p entry (Asking call) h = h
-with_phase_waiting p entry (Inserting dir name node ts first) h = h
-with_phase_waiting p entry (Settling dir name node ts first at) h = h
-with_phase_waiting p entry (TakingBack dir name node errno first at) h = h
-with_phase_waiting p entry (Finished done) h = rest_in_root p.waiting h
-
-hears_waiting : (p : Progress) (o : Option Phase) (place : PlaceNo) (entry : Entry) → AreInRoot p.waiting → AreInRoot (after_entry p o place entry).waiting
-hears_waiting p None place entry h = h
-hears_waiting p (Some phase) place entry h = with_phase_waiting p entry (heard phase place entry) h
-
 -- ---- a step, by what it makes of the places
 pub record Next (w w' : World) : Type 0 where
   pub holds : Holds w'
@@ -104,33 +94,9 @@ past_step shard store run moved after after_store same to = to ∙ ap (λ n. aft
 may_step : (shard : Shard) (store : Store) (run : List (PlaceNo × Entry)) (moved : Option Moved) → tree shard store ≡ space run → IsAllowed (tree shard store) moved → IsAllowed (space run) moved
 may_step shard store run moved same may = subst (λ n. IsAllowed n moved) same may
 
-shard_next : (w : World) (c : ℕ) (p : Progress) (ask : Ask) (number : ℕ) (s : Served Shard) → Holds w → AreInRoot p.waiting → Keeps w.shard s.contents w.store w.store (set_last w.lasts (place_of ask).0 number) c s.moved
-    → CurrentHolds s.contents w.store c (hears p (place_of ask) (entry_of c number ask s)).current → Next w (after_shard w c p ask number s)
-shard_next w c p ask number s h wait k own = record {
-  holds = record {
-    places = k.places;
-    clients = clients_keep w.shard s.contents w.store w.store w.clients c (hears p (place_of ask) (entry_of c number ask s)) k.others own h.clients;
-    waiting = waiting_keep w.clients c (hears p (place_of ask) (entry_of c number ask s)) (hears_waiting p p.current (place_of ask) (entry_of c number ask s) wait) h.waiting;
-  };
-  past = λ past. record { same = past_step w.shard w.store w.run s.moved s.contents w.store past.same k.to; allowed = (may_step w.shard w.store w.run s.moved past.same k.may, past.allowed) };
-  grows = inr (_, refl);
-}
-
-store_next : (w : World) (c : ℕ) (p : Progress) (ask : Ask) (number : ℕ) (s : Served Store) → Holds w → AreInRoot p.waiting → Keeps w.shard w.shard w.store s.contents (set_last w.lasts (place_of ask).0 number) c s.moved
-    → CurrentHolds w.shard s.contents c (hears p (place_of ask) (entry_of c number ask s)).current → Next w (after_store w c p ask number s)
-store_next w c p ask number s h wait k own = record {
-  holds = record {
-    places = k.places;
-    clients = clients_keep w.shard w.shard w.store s.contents w.clients c (hears p (place_of ask) (entry_of c number ask s)) k.others own h.clients;
-    waiting = waiting_keep w.clients c (hears p (place_of ask) (entry_of c number ask s)) (hears_waiting p p.current (place_of ask) (entry_of c number ask s) wait) h.waiting;
-  };
-  past = λ past. record { same = past_step w.shard w.store w.run s.moved w.shard s.contents past.same k.to; allowed = (may_step w.shard w.store w.run s.moved past.same k.may, past.allowed) };
-  grows = inr (_, refl);
-}
-
 -- a step that leaves the places as they are
 quiet : (shard : Shard) (store : Store) (lasts : ℕ → ℕ) (place number c : ℕ) → lasts place < number → PlacesHold shard store lasts → Keeps shard shard store store (set_last lasts place number) c None
-quiet shard store lasts place number c later h = record { places = raise shard store lasts (set_last lasts place number) (raised lasts place number later) h; others = λ i d o x. x; to = refl; may = tt }
+quiet shard store lasts place number c later h = record { places = raise shard store lasts (set_last lasts place number) (raised lasts place number later) h; shows = λ d s. s; others = λ i d o x. x; to = refl; may = tt }
 
 -- ---- a node is put
 module _ (shard : Shard) (store : Store) (lasts : ℕ → ℕ) (h : PlacesHold shard store lasts) (at : Stamp) (later : lasts at.place.0 < at.number) where
@@ -161,6 +127,7 @@ module _ (shard : Shard) (store : Store) (lasts : ℕ → ℕ) (h : PlacesHold s
         places = replaced_places shard store recs store' node (Some owner) r lasts (set_last lasts at.place.0 at.number) (raised lasts at.place.0 at.number later) h
             (λ e. cc) (λ e. (owner, refl))
             (λ o e. let new : set_last lasts at.place.0 at.number (home_of node).0 ≡ at.number = ap (set_last lasts at.place.0 at.number) home ∙ last_set lasts at.place.0 at.number in omega arith);
+        shows = λ d s. s;
         others = λ i differ o x. replaced_others shard store recs store' node (Some owner) r i (λ y named owns same. let there : owner_at shard store node ≡ Some (Some (client_of i)) = ap (owner_at shard store) (sym same) ∙ owns.owner in cc) o x;
         to = same;
         may = tt;
@@ -175,6 +142,7 @@ own_keeps shard store lasts h place number c later recs store' node named o r ow
   places = replaced_places shard store recs store' node o r lasts (set_last lasts place number) up h
       (λ e. let own = owns.owner in cc) (λ e. stays (sym owns.name ∙ e))
       (λ owner e. let low = h.known node (Some (client_of c)) owns.owner in let more = up (home_of node).0 in omega arith);
+  shows = λ d s. s;
   others = λ i differ p x. replaced_others shard store recs store' node o r i (λ y b other. two_nodes shard store i c y node b named other owns differ) p x;
   to = same;
   may = tt;
@@ -203,6 +171,14 @@ shown_by_name shard d e = by_test (d == 0) e
     by_test : (b : Bool) {p : Bool} → p ≡ true → (b || p) ≡ true
     by_test true e = refl
     by_test false e = e
+
+-- a look-up tells of a directory of the tree
+row_tells : (shard : Shard) (dir : DirId) (name : List ℕ) (row : Row) → get shard.rows (row_key dir name) ≡ Some row → TellsShown shard (NodeReply row.node)
+row_tells shard dir name row there = by_node row.node (named_of_row shard (row_key dir name) row there)
+  where
+    by_node : (node : Node) → is_named_node shard node ≡ true → TellsShown shard (NodeReply node)
+    by_node (File f) named = tt
+    by_node (Dir d) named = shown_by_name shard d.0 named
 
 -- ---- the tree stays where a new directory is put, or an owned one is settled or taken back
 put_dir_tree : (shard : Shard) (store : Store) (d : ℕ) (v : DirRec) → is_shown shard d ≡ false → tree (with_recs shard (insert shard.recs d v)) store ≡ tree shard store
@@ -241,25 +217,45 @@ hidden_dir shard store lasts d h name owned = by_test (d == 0) refl name
     by_test false t n = n
 
 -- ---- the steps of a client in a call
-module _ (counts : Counts) (good : AreCounts counts) (w : World) (c : ℕ) (waiting : List Call) (last puts : ℕ) (done : List CallDone) (free : Unlocked w.shard) (h : Holds w) (wait : AreInRoot waiting) where
+module _ (counts : Counts) (good : AreCounts counts) (w : World) (c : ℕ) (rest : Reply → Plan) (last puts : ℕ) (done : List CallDone) (free : Unlocked w.shard) (h : Holds w) (follows : Follows w.shard rest) where
   abbrev at_phase : Phase → Progress
-  at_phase phase = record { current = Some phase; waiting = waiting; ended = false; last = last; puts = puts; done = done }
+  at_phase phase = record { current = Some phase; rest = rest; ended = false; last = last; puts = puts; done = done }
+
+  shard_next : (phase : Phase) (ask : Ask) (number : ℕ) (s : Served Shard) → Keeps w.shard s.contents w.store w.store (set_last w.lasts (place_of ask).0 number) c s.moved
+      → PhaseReached s.contents w.store c (heard phase (place_of ask) (entry_of c number ask s)) → Next w (after_shard w c (at_phase phase) ask number s)
+  shard_next phase ask number s k own =
+      let entry = entry_of c number ask s in
+      let actor = phase_holds s.contents w.store c (at_phase phase) entry (follows_keep w.shard s.contents k.shows rest follows) (heard phase (place_of ask) entry) own in
+      record {
+        holds = record { places = k.places; clients = clients_keep w.shard s.contents w.store w.store w.clients c _ k.shows k.others actor h.clients };
+        past = λ past. record { same = past_step w.shard w.store w.run s.moved s.contents w.store past.same k.to; allowed = (may_step w.shard w.store w.run s.moved past.same k.may, past.allowed) };
+        grows = inr (_, refl);
+      }
+
+  store_next : (phase : Phase) (ask : Ask) (number : ℕ) (s : Served Store) → Keeps w.shard w.shard w.store s.contents (set_last w.lasts (place_of ask).0 number) c s.moved
+      → PhaseReached w.shard s.contents c (heard phase (place_of ask) (entry_of c number ask s)) → Next w (after_store w c (at_phase phase) ask number s)
+  store_next phase ask number s k own =
+      let entry = entry_of c number ask s in
+      let actor = phase_holds w.shard s.contents c (at_phase phase) entry follows (heard phase (place_of ask) entry) own in
+      record {
+        holds = record { places = k.places; clients = clients_keep w.shard w.shard w.store s.contents w.clients c _ k.shows k.others actor h.clients };
+        past = λ past. record { same = past_step w.shard w.store w.run s.moved w.shard s.contents past.same k.to; allowed = (may_step w.shard w.store w.run s.moved past.same k.may, past.allowed) };
+        grows = inr (_, refl);
+      }
 
   -- a step that is only a look
-  look_next : (phase : Phase) (ask : Ask) (number : ℕ) (s : Served Shard) → w.lasts (place_of ask).0 < number → s.contents ≡ w.shard → s.moved ≡ None
-      → CurrentHolds w.shard w.store c (hears (at_phase phase) (place_of ask) (entry_of c number ask s)).current → Next w (after_shard w c (at_phase phase) ask number s)
-  look_next phase ask number s later same none own = shard_next w c (at_phase phase) ask number s h wait
-      (subst (λ m. Keeps w.shard s.contents w.store w.store (set_last w.lasts (place_of ask).0 number) c m) (sym none)
-      (subst (λ (t : Shard). Keeps w.shard t w.store w.store (set_last w.lasts (place_of ask).0 number) c None) (sym same) (quiet w.shard w.store w.lasts (place_of ask).0 number c later h.places)))
-      (subst (λ (t : Shard). CurrentHolds t w.store c (hears (at_phase phase) (place_of ask) (entry_of c number ask s)).current) (sym same) own)
+  look_next : (phase : Phase) (ask : Ask) (number : ℕ) (answer : Answer) → w.lasts (place_of ask).0 < number
+      → PhaseReached w.shard w.store c (heard phase (place_of ask) (entry_of c number ask (unmoved w.shard answer))) → Next w (after_shard w c (at_phase phase) ask number (unmoved w.shard answer))
+  look_next phase ask number answer later own = shard_next phase ask number (unmoved w.shard answer) (quiet w.shard w.store w.lasts (place_of ask).0 number c later h.places) own
 
-  lookup_next : (dir : DirId) (name : List ℕ) (number : ℕ) → w.lasts (place_of (Read dir name)).0 < number → (q : Option Row) → Next w (after_shard w c (at_phase (Asking (Lookup dir name))) (Read dir name) number (unmoved w.shard (read_row q)))
-  lookup_next dir name number later None = look_next (Asking (Lookup dir name)) (Read dir name) number _ later refl refl (first_holds w.shard w.store c waiting wait)
-  lookup_next dir name number later (Some row) = look_next (Asking (Lookup dir name)) (Read dir name) number _ later refl refl (first_holds w.shard w.store c waiting wait)
+  lookup_next : (dir : DirId) (name : List ℕ) (number : ℕ) → w.lasts (place_of (Read dir name)).0 < number → (q : Option Row) → get w.shard.rows (row_key dir name) ≡ q
+      → Next w (after_shard w c (at_phase (Asking (Lookup dir name))) (Read dir name) number (unmoved w.shard (read_row q)))
+  lookup_next dir name number later None there = look_next (Asking (Lookup dir name)) (Read dir name) number (read_row None) later tt
+  lookup_next dir name number later (Some row) there = look_next (Asking (Lookup dir name)) (Read dir name) number (read_row (Some row)) later (row_tells w.shard dir name row there)
 
   list_next : (dir : DirId) (number : ℕ) → w.lasts (place_of (ListAsk dir)).0 < number → (o : Option DirRec) → Next w (after_shard w c (at_phase (Asking (ListCall dir))) (ListAsk dir) number (unmoved w.shard (list_rows w.shard dir.0 o)))
-  list_next dir number later None = look_next (Asking (ListCall dir)) (ListAsk dir) number _ later refl refl (first_holds w.shard w.store c waiting wait)
-  list_next dir number later (Some r) = look_next (Asking (ListCall dir)) (ListAsk dir) number _ later refl refl (first_holds w.shard w.store c waiting wait)
+  list_next dir number later None = look_next (Asking (ListCall dir)) (ListAsk dir) number (list_rows w.shard dir.0 None) later tt
+  list_next dir number later (Some r) = look_next (Asking (ListCall dir)) (ListAsk dir) number (list_rows w.shard dir.0 (Some r)) later tt
 
   abbrev put_ask : ℕ → DirId → Ask
   put_ask index dir = Put (client_of c) (store_place index) dir
@@ -276,7 +272,7 @@ module _ (counts : Counts) (good : AreCounts counts) (w : World) (c : ℕ) (wait
       let r = set_file w.shard w.store h.places.counts f v in
       let none = fresh w.shard w.store w.lasts h.places (stamped number (put_ask index dir)) later (File f) refl (home_file number index low) in
       let name_none = unnamed w.shard w.store w.lasts h.places (stamped number (put_ask index dir)) later (File f) none in
-      store_next w c (at_phase (Asking (Create dir name))) (put_ask index dir) number (put_file w.store (stamped number (put_ask index dir)) (client_of c) dir) h wait
+      store_next (Asking (Create dir name)) (put_ask index dir) number (put_file w.store (stamped number (put_ask index dir)) (client_of c) dir)
       (put_keeps w.shard w.store w.lasts h.places (stamped number (put_ask index dir)) later c w.shard.recs (insert w.store f.0 v) (File f) (Some (client_of c)) r refl (home_file number index low)
       (files_tree w.shard w.store (insert w.store f.0 v) (files-put w.shard w.store f.0 v (client_of c) refl name_none (no_rec (get w.store f.0) refl none))))
       (record { sees = sees; owns = record { owner = r.here; name = name_none }; new = ap (option_map facts_of) (get-insert_same w.store f.0 v) })
@@ -296,7 +292,7 @@ module _ (counts : Counts) (good : AreCounts counts) (w : World) (c : ℕ) (wait
       let hidden = hidden_dir w.shard w.store w.lasts d.0 h.places name_none (λ e. cc) in
       let empty_dir = no_rows_in w.shard w.store w.lasts d.0 h.places hidden in
       let r = set_dir w.shard w.store h.places.counts d v (record { children = sym (no_children w.shard d.0 empty_dir); subdirs = sym (no_subdirs w.shard d.0 empty_dir) }) in
-      shard_next w c (at_phase (Asking (Mkdir dir name))) (put_dir_ask index dir name) number (put_dir w.shard (stamped number (put_dir_ask index dir name)) (client_of c) dir name) h wait
+      shard_next (Asking (Mkdir dir name)) (put_dir_ask index dir name) number (put_dir w.shard (stamped number (put_dir_ask index dir name)) (client_of c) dir name)
       (put_keeps w.shard w.store w.lasts h.places (stamped number (put_dir_ask index dir name)) later c (insert w.shard.recs d.0 v) w.store (Dir d) (Some (client_of c)) r refl (home_dir number index low) (put_dir_tree w.shard w.store d.0 v hidden))
       (record { sees = sees; owns = record { owner = r.here; name = name_none }; new = ap (option_map (λ (r : DirRec). r.attr.time)) (get-insert_same w.shard.recs d.0 v) })
 
@@ -333,12 +329,13 @@ module _ (counts : Counts) (good : AreCounts counts) (w : World) (c : ℕ) (wait
   insert_next : (dir : DirId) (name : List ℕ) (node : Node) (ts : ℕ) (first at : Stamp) (number : ℕ) → w.lasts (place_of (Insert (client_of c) dir name node ts)).0 < number
       → (o : Option DirRec) → get w.shard.recs dir.0 ≡ o → (q : Option Row) → get w.shard.rows (row_key dir name) ≡ q → MayInsert w.shard w.store c dir node ts
       → Next w (after_shard w c (at_phase (Inserting dir name node ts first)) (Insert (client_of c) dir name node ts) number (inserted w.shard at (client_of c) dir name node ts o q))
-  insert_next dir name node ts first at number later None e q f may = look_next (Inserting dir name node ts first) (Insert (client_of c) dir name node ts) number _ later refl refl may.owns
-  insert_next dir name node ts first at number later (Some r) e (Some row) f may = look_next (Inserting dir name node ts first) (Insert (client_of c) dir name node ts) number _ later refl refl may.owns
+  insert_next dir name node ts first at number later None e q f may = look_next (Inserting dir name node ts first) (Insert (client_of c) dir name node ts) number NoDir later may.owns
+  insert_next dir name node ts first at number later (Some r) e (Some row) f may = look_next (Inserting dir name node ts first) (Insert (client_of c) dir name node ts) number Exists later may.owns
   insert_next dir name node ts first at number later (Some r) e None f may =
-      shard_next w c (at_phase (Inserting dir name node ts first)) (Insert (client_of c) dir name node ts) number (inserted w.shard at (client_of c) dir name node ts (Some r) None) h wait
+      shard_next (Inserting dir name node ts first) (Insert (client_of c) dir name node ts) number (inserted w.shard at (client_of c) dir name node ts (Some r) None)
       (record {
         places = raise _ w.store w.lasts _ (raised w.lasts (place_of (Insert (client_of c) dir name node ts)).0 number later) (insert_places w.shard w.store w.lasts h.places at dir name node ts c r e f may);
+        shows = stays_shown w.shard at dir name node ts r f;
         others = insert_others w.shard w.store w.lasts h.places at dir name node ts c r e f may;
         to = tree_moves at dir name node ts r e f may;
         may = move_allowed dir name node ts (make_told w.shard w.store dir name node may.sees ∙ rw (e, f) refl) may;
@@ -350,37 +347,37 @@ module _ (counts : Counts) (good : AreCounts counts) (w : World) (c : ℕ) (wait
       → Next w (after_store w c (at_phase (Settling dir name (File f) ts first at)) (Settle (File f)) number (settled w.store f (get w.store f.0)))
   settle_file_next dir name f ts first at number later owns = let own = owned_file w.shard w.store c f.0 true owns in rw (own.1.0, own.1.1) (
       let v : FileRec = record own.0 { owner = None } in
-      store_next w c (at_phase (Settling dir name (File f) ts first at)) (Settle (File f)) number (unmoved (insert w.store f.0 v) (Done None)) h wait
+      store_next (Settling dir name (File f) ts first at) (Settle (File f)) number (unmoved (insert w.store f.0 v) (Done None))
       (own_keeps w.shard w.store w.lasts h.places (home_of (File f)).0 number c later w.shard.recs (insert w.store f.0 v) (File f) true (Some None) (set_file w.shard w.store h.places.counts f v) owns
       (λ e. (None, refl)) (files_tree w.shard w.store (insert w.store f.0 v) (files-settle w.shard w.store f.0 own.0 v refl owns.name own.1.0)))
-      (first_holds w.shard (insert w.store f.0 v) c waiting wait))
+      tt)
 
   settle_dir_next : (dir : DirId) (name : List ℕ) (d : DirId) (ts : ℕ) (first at : Stamp) (number : ℕ) → w.lasts (home_of (Dir d)).0 < number → Owns w.shard w.store c (Dir d) true
       → Next w (after_shard w c (at_phase (Settling dir name (Dir d) ts first at)) (Settle (Dir d)) number (settled_dir w.shard d (get w.shard.recs d.0)))
   settle_dir_next dir name d ts first at number later owns = let own = owned_dir w.shard w.store c d.0 true owns in rw (own.1.0, own.1.1) (
       let v : DirRec = record own.0 { owner = None } in
       let old = h.places.counts d.0 own.0 own.1.0 in
-      shard_next w c (at_phase (Settling dir name (Dir d) ts first at)) (Settle (Dir d)) number (unmoved (with_recs w.shard (insert w.shard.recs d.0 v)) (Done None)) h wait
+      shard_next (Settling dir name (Dir d) ts first at) (Settle (Dir d)) number (unmoved (with_recs w.shard (insert w.shard.recs d.0 v)) (Done None))
       (own_keeps w.shard w.store w.lasts h.places (home_of (Dir d)).0 number c later (insert w.shard.recs d.0 v) w.store (Dir d) true (Some None)
       (set_dir w.shard w.store h.places.counts d v (record { children = old.children; subdirs = old.subdirs })) owns (λ e. (None, refl)) (settle_dir_tree w.shard w.store d.0 own.0 v own.1.0 refl))
-      (first_holds (with_recs w.shard (insert w.shard.recs d.0 v)) w.store c waiting wait))
+      tt)
 
   -- ---- an owner takes its node back
   take_file_next : (dir : DirId) (name : List ℕ) (f : FileId) (errno : Errno) (first at : Stamp) (number : ℕ) → w.lasts (home_of (File f)).0 < number → Owns w.shard w.store c (File f) false
       → Next w (after_store w c (at_phase (TakingBack dir name (File f) errno first at)) (TakeBack (client_of c) (File f)) number (taken_back w.store (client_of c) f (get w.store f.0)))
   take_file_next dir name f errno first at number later owns = let own = owned_file w.shard w.store c f.0 false owns in let same : (c == c) ≡ true = grind (arith, nat_tests) in rw (own.1.0, own.1.1, same) (
-      store_next w c (at_phase (TakingBack dir name (File f) errno first at)) (TakeBack (client_of c) (File f)) number (unmoved (remove w.store f.0) (Done None)) h wait
+      store_next (TakingBack dir name (File f) errno first at) (TakeBack (client_of c) (File f)) number (unmoved (remove w.store f.0) (Done None))
       (own_keeps w.shard w.store w.lasts h.places (home_of (File f)).0 number c later w.shard.recs (remove w.store f.0) (File f) false None (cut_file w.shard w.store h.places.counts f) owns
       (λ e. cc) (files_tree w.shard w.store (remove w.store f.0) (files-take_back w.shard w.store f.0 own.0 (client_of c) own.1.1 owns.name own.1.0)))
-      (first_holds w.shard (remove w.store f.0) c waiting wait))
+      tt)
 
   take_dir_next : (dir : DirId) (name : List ℕ) (d : DirId) (errno : Errno) (first at : Stamp) (number : ℕ) → w.lasts (home_of (Dir d)).0 < number → Owns w.shard w.store c (Dir d) false
       → Next w (after_shard w c (at_phase (TakingBack dir name (Dir d) errno first at)) (TakeBack (client_of c) (Dir d)) number (taken_back_dir w.shard (client_of c) d (get w.shard.recs d.0)))
   take_dir_next dir name d errno first at number later owns = let own = owned_dir w.shard w.store c d.0 false owns in let same : (c == c) ≡ true = grind (arith, nat_tests) in rw (own.1.0, own.1.1, same) (
-      shard_next w c (at_phase (TakingBack dir name (Dir d) errno first at)) (TakeBack (client_of c) (Dir d)) number (unmoved (with_recs w.shard (remove w.shard.recs d.0)) (Done None)) h wait
+      shard_next (TakingBack dir name (Dir d) errno first at) (TakeBack (client_of c) (Dir d)) number (unmoved (with_recs w.shard (remove w.shard.recs d.0)) (Done None))
       (own_keeps w.shard w.store w.lasts h.places (home_of (Dir d)).0 number c later (remove w.shard.recs d.0) w.store (Dir d) false None (cut_dir w.shard w.store h.places.counts d) owns
       (λ e. cc) (cut_dir_tree w.shard w.store d.0 (unshown w.shard w.store w.lasts c d h.places owns)))
-      (first_holds (with_recs w.shard (remove w.shard.recs d.0)) w.store c waiting wait))
+      tt)
 
   -- ---- whichever step it is
   newer : (ask : Ask) → w.lasts (place_of ask).0 < number_after last (w.lasts (place_of ask).0)
@@ -403,16 +400,17 @@ module _ (counts : Counts) (good : AreCounts counts) (w : World) (c : ℕ) (wait
   low_number n = mod_below n 64 (omega arith)
 
   phase_next : (phase : Phase) → PhaseHolds w.shard w.store c phase → Next w (turn_of counts w c (at_phase phase))
-  phase_next (Asking (Lookup dir name)) own = in_shard (Asking (Lookup dir name)) (Read dir name) (below_64 (dir.0 % 64) (low_number dir.0)) (lookup_next dir name _ (newer (Read dir name)) (get w.shard.rows (row_key dir name)))
+  phase_next (Asking (Lookup dir name)) own = in_shard (Asking (Lookup dir name)) (Read dir name) (below_64 (dir.0 % 64) (low_number dir.0)) (lookup_next dir name _ (newer (Read dir name)) _ refl)
   phase_next (Asking (ListCall dir)) own = in_shard (Asking (ListCall dir)) (ListAsk dir) (below_64 (dir.0 % 64) (low_number dir.0)) (list_next dir _ (newer (ListAsk dir)) (get w.shard.recs dir.0))
   phase_next (Asking (Create dir name)) own =
       let index = (c + puts) % counts.stores in
       let low = low_index counts.stores good.stores in
-      in_store (Asking (Create dir name)) (put_ask index dir) (not_below_64 index) (below_128 index low) (put_next dir name index _ low (newer (put_ask index dir)) own)
+      in_store (Asking (Create dir name)) (put_ask index dir) (not_below_64 index) (below_128 index low) (put_next dir name index _ low (newer (put_ask index dir)) own.sees)
   phase_next (Asking (Mkdir dir name)) own =
       let index = (c + puts) % counts.shards in
       let low = low_index counts.shards good.shards in
-      in_shard (Asking (Mkdir dir name)) (put_dir_ask index dir name) (below_64 index low) (put_dir_next dir name index _ low (newer (put_dir_ask index dir name)) own)
+      in_shard (Asking (Mkdir dir name)) (put_dir_ask index dir name) (below_64 index low) (put_dir_next dir name index _ low (newer (put_dir_ask index dir name)) own.sees)
+  phase_next (Asking call) own = let built : has_steps call ≡ true = own.built in absurd (cc)
   phase_next (Inserting dir name node ts first) own =
       in_shard (Inserting dir name node ts first) (Insert (client_of c) dir name node ts) (below_64 (dir.0 % 64) (low_number dir.0)) (insert_next dir name node ts first _ _ (newer (Insert (client_of c) dir name node ts)) _ refl _ refl own)
   phase_next (Settling dir name (File f) ts first at) own =
@@ -426,22 +424,25 @@ module _ (counts : Counts) (good : AreCounts counts) (w : World) (c : ℕ) (wait
   phase_next (Finished done) own = absurd own
 
 -- ---- a turn
-turn_next : (counts : Counts) → AreCounts counts → (w : World) (c : ℕ) (current : Option Phase) (waiting : List Call) (ended : Bool) (last puts : ℕ) (done : List CallDone) → Unlocked w.shard → Holds w → AreInRoot waiting → CurrentHolds w.shard w.store c current
-    → Next w (turn_of counts w c (record { current = current; waiting = waiting; ended = ended; last = last; puts = puts; done = done }))
-turn_next counts good w c current waiting true last puts done free h wait own = record { holds = h; past = λ past. past; grows = inl refl }
-turn_next counts good w c None waiting false last puts done free h wait own = record {
+turn_next : (counts : Counts) → AreCounts counts → (w : World) (c : ℕ) (current : Option Phase) (rest : Reply → Plan) (ended : Bool) (last puts : ℕ) (done : List CallDone)
+    → Unlocked w.shard → Holds w → Follows w.shard rest → CurrentHolds w.shard w.store c current
+    → Next w (turn_of counts w c (record { current = current; rest = rest; ended = ended; last = last; puts = puts; done = done }))
+turn_next counts good w c current rest true last puts done free h follows own = record { holds = h; past = λ past. past; grows = inl refl }
+turn_next counts good w c None rest false last puts done free h follows own = record {
   holds = record {
     places = raise w.shard w.store w.lasts _ (raised w.lasts 129 (number_after last (w.lasts 129)) (omega arith)) h.places;
-    clients = clients_keep w.shard w.shard w.store w.store w.clients c _ (λ i d o x. x) tt h.clients;
-    waiting = waiting_keep w.clients c _ wait h.waiting;
+    clients = clients_keep w.shard w.shard w.store w.store w.clients c _ (λ d s. s) (λ i d o x. x) (record { current = tt; follows = follows }) h.clients;
   };
   past = λ past. record { same = past.same; allowed = (tt, past.allowed) };
   grows = inr (_, refl);
 }
-turn_next counts good w c (Some phase) waiting false last puts done free h wait own = phase_next counts good w c waiting last puts done free h wait phase own
+turn_next counts good w c (Some phase) rest false last puts done free h follows own = phase_next counts good w c rest last puts done free h follows phase own
 
 pub next_of : (counts : Counts) → AreCounts counts → (w : World) (c : ℕ) → Unlocked w.shard → Holds w → Next w (turn counts w c)
-next_of counts good w c free h = let p = w.clients c in turn_next counts good w c p.current p.waiting p.ended p.last p.puts p.done free h (h.waiting c) (h.clients c)
+next_of counts good w c free h =
+    let p = w.clients c in
+    let client = h.clients c in
+    turn_next counts good w c p.current p.rest p.ended p.last p.puts p.done free h client.follows client.current
 
 pub run_keeps : (counts : Counts) → AreCounts counts → (cs : List ℕ) (w : World) → Unlocked w.shard → Holds w → Holds (run_of counts cs w)
 run_keeps counts good [] w free h = h

@@ -3,10 +3,11 @@ use Rattle.std.specs.Prelude.{ℕ, List, [], ◌∷◌, ◌++◌, length, codes,
 use Rattle.std.specs.List.{concat}
 use Rattle.cfs_ids.specs.Errnos.{text_of}
 use Rattle.cfs_ids.specs.declared.ids.DirId.{DirId}
+use Rattle.cfs_ids.specs.declared.ids.JobNo.{JobNo}
 use Rattle.cfs_ids.specs.declared.ids.Node.{Node}
 use Rattle.cfs_ids.specs.declared.errno.Errno.{Errno}
 use Rattle.cfs_ids.specs.declared.call.Call.{Call}
-use Rattle.cfs_ids.specs.declared.call.Call.TheVariants.{Lookup, List as ListCall, Create, Mkdir}
+use Rattle.cfs_ids.specs.declared.call.Call.TheVariants.{Lookup, List as ListCall, StatRoot, Stat, Create, Mkdir, Unlink, Rmdir, Truncate, Rename}
 use Rattle.cfs_ids.specs.declared.call.Reply.{Reply}
 use Rattle.cfs_ids.specs.declared.call.Reply.TheVariants as reply
 use Rattle.cfs_steps.specs.declared.line.Line.{Line}
@@ -20,12 +21,22 @@ use Rattle.cfs_print.specs.Pieces.{node_text, position_text}
 unfoldable pub named_call : List ℕ → DirId → List ℕ → List ℕ
 named_call call dir name = concat (call ∷ codes " " ∷ decimal dir.0 ∷ codes " " ∷ name ∷ [])
 
+-- the second directory and name of a rename
+unfoldable pub to_text : DirId → List ℕ → List ℕ
+to_text dir name = concat (codes " " ∷ decimal dir.0 ∷ codes " " ∷ name ∷ [])
+
 -- the name of the call and its fields
 unfoldable pub call_text : Call → List ℕ
 call_text (Lookup dir name) = named_call (codes "lookup") dir name
 call_text (ListCall dir) = concat (codes "list " ∷ decimal dir.0 ∷ [])
+call_text StatRoot = codes "statroot"
+call_text (Stat dir name) = named_call (codes "stat") dir name
 call_text (Create dir name) = named_call (codes "create") dir name
 call_text (Mkdir dir name) = named_call (codes "mkdir") dir name
+call_text (Unlink dir name) = named_call (codes "unlink") dir name
+call_text (Rmdir dir name) = named_call (codes "rmdir") dir name
+call_text (Truncate file size) = concat (codes "truncate " ∷ decimal file.0 ∷ codes " " ∷ decimal size ∷ [])
+call_text (Rename dir name to_dir to_name) = named_call (codes "rename") dir name ++ to_text to_dir to_name
 
 -- r NAME NODE
 unfoldable pub row_line : List ℕ × Node → List ℕ
@@ -45,6 +56,15 @@ node_end node = concat (codes " = node " ∷ node_text (Some node) ∷ codes "\n
 unfoldable pub errno_end : Errno → List ℕ
 errno_end errno = concat (codes " = " ∷ text_of errno ∷ codes "\n" ∷ [])
 
+unfoldable pub dir_end : (children links time : ℕ) → List ℕ
+dir_end children links time = concat (codes " = dir " ∷ decimal children ∷ codes " " ∷ decimal links ∷ codes " " ∷ decimal time ∷ codes "\n" ∷ [])
+
+unfoldable pub file_end : (size time : ℕ) → List ℕ
+file_end size time = concat (codes " = file " ∷ decimal size ∷ codes " " ∷ decimal time ∷ codes "\n" ∷ [])
+
+unfoldable pub busy_end : JobNo → List ℕ
+busy_end job = concat (codes " = BUSY " ∷ decimal job.0 ∷ codes "\n" ∷ [])
+
 unfoldable pub moved_end : (ts : ℕ) → Option Node → List ℕ
 moved_end ts made = concat (codes " = ok " ∷ decimal ts ∷ codes " " ∷ node_text made ∷ codes "\n" ∷ [])
 
@@ -55,9 +75,13 @@ unfinished_end (Some move) = concat (codes " = unfinished " ∷ decimal move.0 �
 -- = OUTCOME
 abbrev pub reply_end : Reply → List ℕ
 reply_end reply.Moved = moved_end 0 None
+reply_end reply.Kept = codes " = kept\n"
 reply_end (reply.Node node) = node_end node
 reply_end (reply.Rows rows) = rows_text rows
+reply_end (reply.DirStat children links time) = dir_end children links time
+reply_end (reply.FileStat size time) = file_end size time
 reply_end (reply.Refused errno) = errno_end errno
+reply_end (reply.Busy job) = busy_end job
 
 abbrev pub outcome_end : Outcome → List ℕ
 outcome_end (outcome.Moved ts made) = moved_end ts made

@@ -2,11 +2,11 @@
 ghost use Rattle.std.specs.Prelude.{OnOk, flat_map};
 ghost use Rattle.cfs_io.specs.Causes.{HasCause};
 ghost use Rattle.cfs_print.specs.Passing.{Adds, AddsFront};
-ghost use Rattle.cfs_print.specs.Commands.{reply_word, command_start, command_line};
+ghost use Rattle.cfs_print.specs.Commands.{reply_word, dir_word, file_word, command_start, command_line};
 
 use crate::output::{Page, Piece, put, put_all};
 use Piece::{Number, Text};
-use cfs_ids::{Client, Reply, errno_text};
+use cfs_ids::{Client, Reply, Ts, errno_text};
 use cfs_io::{Failed, Sink};
 
 /// A command of a client that was answered or has made a step: its number among the client's commands, from 1, and its
@@ -18,6 +18,52 @@ pub struct CommandReply {
     pub reply: Option<Reply>,
 }
 
+#[tactic(auto, using(crate::proofs::Passed::passing), unfolding(crate::specs::Commands::dir_word))]
+fn put_dir_stat<K: Sink>(
+    sink: &mut K,
+    page: &mut Page,
+    children: u64,
+    links: u64,
+    time: Ts,
+) -> Result<(), Failed>
+    ensures ok { OnOk result (Adds (K.taken sink.old) page.old.items (K.taken sink.new) page.new.items (dir_word children links time)) }
+    ensures front { AddsFront (K.taken sink.old) page.old.items (K.taken sink.new) (dir_word children links time) }
+    ensures cause { HasCause (K.faults sink.old) (K.faults sink.new) result }
+{
+    put_all(
+        sink,
+        page,
+        &[
+            Text(b"DIR children="),
+            Number(children),
+            Text(b" links="),
+            Number(links),
+            Text(b" time="),
+            Number(time),
+            Text(b"\n"),
+        ],
+    )
+}
+
+#[tactic(auto, using(crate::proofs::Passed::passing), unfolding(crate::specs::Commands::file_word))]
+fn put_file_stat<K: Sink>(sink: &mut K, page: &mut Page, size: u64, time: Ts) -> Result<(), Failed>
+    ensures ok { OnOk result (Adds (K.taken sink.old) page.old.items (K.taken sink.new) page.new.items (file_word size time)) }
+    ensures front { AddsFront (K.taken sink.old) page.old.items (K.taken sink.new) (file_word size time) }
+    ensures cause { HasCause (K.faults sink.old) (K.faults sink.new) result }
+{
+    put_all(
+        sink,
+        page,
+        &[
+            Text(b"FILE size="),
+            Number(size),
+            Text(b" time="),
+            Number(time),
+            Text(b"\n"),
+        ],
+    )
+}
+
 #[tactic(auto, using(crate::proofs::Passed::passing), unfolding(crate::specs::Commands::reply_word))]
 fn put_reply<K: Sink>(sink: &mut K, page: &mut Page, reply: &Option<Reply>) -> Result<(), Failed>
     ensures ok { OnOk result (Adds (K.taken sink.old) page.old.items (K.taken sink.new) page.new.items (reply_word reply.now)) }
@@ -26,7 +72,7 @@ fn put_reply<K: Sink>(sink: &mut K, page: &mut Page, reply: &Option<Reply>) -> R
 {
     match reply {
         None => put(sink, page, b"-\n"),
-        Some(Reply::Moved) => put(sink, page, b"OK\n"),
+        Some(Reply::Moved | Reply::Kept) => put(sink, page, b"OK\n"),
         Some(Reply::Node(node)) => put_all(
             sink,
             page,
@@ -36,6 +82,19 @@ fn put_reply<K: Sink>(sink: &mut K, page: &mut Page, reply: &Option<Reply>) -> R
             sink,
             page,
             &[Text(b"LIST "), Number(rows.len() as u64), Text(b"\n")],
+        ),
+        Some(
+            Reply::DirStat {
+                children,
+                links,
+                time,
+            },
+        ) => put_dir_stat(sink, page, *children, *links, *time),
+        Some(Reply::FileStat { size, time }) => put_file_stat(sink, page, *size, *time),
+        Some(Reply::Busy(job)) => put_all(
+            sink,
+            page,
+            &[Text(b"BUSY "), Number(job.0), Text(b"\n")],
         ),
         Some(Reply::Refused(errno)) => put_all(
             sink,

@@ -1,13 +1,13 @@
 //! The lines of a history.
-ghost use Rattle.std.specs.Prelude.{OnOk, flat_map};
+ghost use Rattle.std.specs.Prelude.{◌++◌, OnOk, codes, flat_map};
 ghost use Rattle.cfs_io.specs.Causes.{HasCause};
 ghost use Rattle.cfs_print.specs.Passing.{Adds, AddsFront};
-ghost use Rattle.cfs_print.specs.Lines.{named_call, call_text, row_line, rows_head, rows_text, node_end, errno_end, moved_end, unfinished_end, reply_end, outcome_end, line_start, line_text, item_text};
+ghost use Rattle.cfs_print.specs.Lines.{named_call, to_text, call_text, row_line, rows_head, rows_text, node_end, errno_end, dir_end, file_end, busy_end, moved_end, unfinished_end, reply_end, outcome_end, line_start, line_text, item_text};
 
 use crate::output::{Page, Piece, put, put_all};
 use Piece::{Number, Position, Text};
 use cfs_history::{HistoryItem, Line, Outcome};
-use cfs_ids::{Call, DirId, Errno, Name, Node, Reply, Ts, errno_text};
+use cfs_ids::{Call, DirId, Errno, JobNo, Name, Node, Reply, Ts, errno_text};
 use cfs_io::{Failed, Sink};
 
 #[tactic(auto, using(crate::proofs::Passed::passing), unfolding(crate::specs::Lines::named_call))]
@@ -35,6 +35,41 @@ fn put_named<'a, K: Sink>(
     )
 }
 
+#[tactic(auto, using(crate::proofs::Passed::passing), unfolding(crate::specs::Lines::to_text))]
+fn put_to<'a, K: Sink>(
+    sink: &mut K,
+    page: &mut Page,
+    dir: DirId,
+    name: &'a Name,
+) -> Result<(), Failed>
+    ensures ok { OnOk result (Adds (K.taken sink.old) page.old.items (K.taken sink.new) page.new.items (to_text dir name.now)) }
+    ensures front { AddsFront (K.taken sink.old) page.old.items (K.taken sink.new) (to_text dir name.now) }
+    ensures cause { HasCause (K.faults sink.old) (K.faults sink.new) result }
+{
+    put_all(
+        sink,
+        page,
+        &[Text(b" "), Number(dir.0), Text(b" "), Text(name.as_bytes())],
+    )
+}
+
+#[tactic(auto, using(crate::proofs::Passed::passing))]
+fn put_rename<K: Sink>(
+    sink: &mut K,
+    page: &mut Page,
+    dir: DirId,
+    name: &Name,
+    to_dir: DirId,
+    to_name: &Name,
+) -> Result<(), Failed>
+    ensures ok { OnOk result (Adds (K.taken sink.old) page.old.items (K.taken sink.new) page.new.items (named_call (codes "rename") dir name.now ++ to_text to_dir to_name.now)) }
+    ensures front { AddsFront (K.taken sink.old) page.old.items (K.taken sink.new) (named_call (codes "rename") dir name.now ++ to_text to_dir to_name.now) }
+    ensures cause { HasCause (K.faults sink.old) (K.faults sink.new) result }
+{
+    put_named(sink, page, b"rename", dir, name)?;
+    put_to(sink, page, to_dir, to_name)
+}
+
 #[tactic(auto, using(crate::proofs::Passed::passing), unfolding(crate::specs::Lines::call_text))]
 fn put_call<K: Sink>(sink: &mut K, page: &mut Page, call: &Call) -> Result<(), Failed>
     ensures ok { OnOk result (Adds (K.taken sink.old) page.old.items (K.taken sink.new) page.new.items (call_text call.now)) }
@@ -44,8 +79,28 @@ fn put_call<K: Sink>(sink: &mut K, page: &mut Page, call: &Call) -> Result<(), F
     match call {
         Call::Lookup { dir, name } => put_named(sink, page, b"lookup", *dir, name),
         Call::List { dir } => put_all(sink, page, &[Text(b"list "), Number(dir.0)]),
+        Call::StatRoot => put(sink, page, b"statroot"),
+        Call::Stat { dir, name } => put_named(sink, page, b"stat", *dir, name),
         Call::Create { dir, name } => put_named(sink, page, b"create", *dir, name),
         Call::Mkdir { dir, name } => put_named(sink, page, b"mkdir", *dir, name),
+        Call::Unlink { dir, name } => put_named(sink, page, b"unlink", *dir, name),
+        Call::Rmdir { dir, name } => put_named(sink, page, b"rmdir", *dir, name),
+        Call::Truncate { file, size } => put_all(
+            sink,
+            page,
+            &[
+                Text(b"truncate "),
+                Number(file.0),
+                Text(b" "),
+                Number(*size),
+            ],
+        ),
+        Call::Rename {
+            dir,
+            name,
+            to_dir,
+            to_name,
+        } => put_rename(sink, page, *dir, name, *to_dir, to_name),
     }
 }
 
@@ -129,6 +184,61 @@ fn put_refused<K: Sink>(sink: &mut K, page: &mut Page, errno: Errno) -> Result<(
     )
 }
 
+#[tactic(auto, using(crate::proofs::Passed::passing), unfolding(crate::specs::Lines::dir_end))]
+fn put_dir<K: Sink>(
+    sink: &mut K,
+    page: &mut Page,
+    children: u64,
+    links: u64,
+    time: Ts,
+) -> Result<(), Failed>
+    ensures ok { OnOk result (Adds (K.taken sink.old) page.old.items (K.taken sink.new) page.new.items (dir_end children links time)) }
+    ensures front { AddsFront (K.taken sink.old) page.old.items (K.taken sink.new) (dir_end children links time) }
+    ensures cause { HasCause (K.faults sink.old) (K.faults sink.new) result }
+{
+    put_all(
+        sink,
+        page,
+        &[
+            Text(b" = dir "),
+            Number(children),
+            Text(b" "),
+            Number(links),
+            Text(b" "),
+            Number(time),
+            Text(b"\n"),
+        ],
+    )
+}
+
+#[tactic(auto, using(crate::proofs::Passed::passing), unfolding(crate::specs::Lines::file_end))]
+fn put_file<K: Sink>(sink: &mut K, page: &mut Page, size: u64, time: Ts) -> Result<(), Failed>
+    ensures ok { OnOk result (Adds (K.taken sink.old) page.old.items (K.taken sink.new) page.new.items (file_end size time)) }
+    ensures front { AddsFront (K.taken sink.old) page.old.items (K.taken sink.new) (file_end size time) }
+    ensures cause { HasCause (K.faults sink.old) (K.faults sink.new) result }
+{
+    put_all(
+        sink,
+        page,
+        &[
+            Text(b" = file "),
+            Number(size),
+            Text(b" "),
+            Number(time),
+            Text(b"\n"),
+        ],
+    )
+}
+
+#[tactic(auto, using(crate::proofs::Passed::passing), unfolding(crate::specs::Lines::busy_end))]
+fn put_busy<K: Sink>(sink: &mut K, page: &mut Page, job: JobNo) -> Result<(), Failed>
+    ensures ok { OnOk result (Adds (K.taken sink.old) page.old.items (K.taken sink.new) page.new.items (busy_end job)) }
+    ensures front { AddsFront (K.taken sink.old) page.old.items (K.taken sink.new) (busy_end job) }
+    ensures cause { HasCause (K.faults sink.old) (K.faults sink.new) result }
+{
+    put_all(sink, page, &[Text(b" = BUSY "), Number(job.0), Text(b"\n")])
+}
+
 #[tactic(auto, using(crate::proofs::Passed::passing), unfolding(crate::specs::Lines::moved_end))]
 fn put_moved<K: Sink>(
     sink: &mut K,
@@ -187,9 +297,17 @@ fn put_reply<K: Sink>(sink: &mut K, page: &mut Page, reply: &Reply) -> Result<()
 {
     match reply {
         Reply::Moved => put_moved(sink, page, 0, None),
+        Reply::Kept => put(sink, page, b" = kept\n"),
         Reply::Node(node) => put_found(sink, page, *node),
         Reply::Rows(rows) => put_list(sink, page, rows.as_slice()),
+        Reply::DirStat {
+            children,
+            links,
+            time,
+        } => put_dir(sink, page, *children, *links, *time),
+        Reply::FileStat { size, time } => put_file(sink, page, *size, *time),
         Reply::Refused(errno) => put_refused(sink, page, *errno),
+        Reply::Busy(job) => put_busy(sink, page, *job),
     }
 }
 

@@ -43,7 +43,7 @@ fn ask_of_call(call: &Call) -> Result<Ask, NoMemory>
             name: name.copy()?,
         }),
         Call::List { dir } => Ok(Ask::List { dir: *dir }),
-        Call::Create { .. } | Call::Mkdir { .. } => unreachable!(),
+        _ => unreachable!(),
     }
 }
 
@@ -54,7 +54,7 @@ fn place_of_call(call: &Call) -> PlaceNo
 {
     match call {
         Call::Lookup { dir, .. } | Call::List { dir } => PlaceNo((dir.0 % 64) as u32),
-        Call::Create { .. } | Call::Mkdir { .. } => unreachable!(),
+        _ => unreachable!(),
     }
 }
 

@@ -5,6 +5,7 @@ use Rattle.std.specs.FinMap.{get, entries}
 use Rattle.cfs_ids.specs.declared.ids.DirId.{DirId}
 use Rattle.cfs_ids.specs.declared.ids.Node.{Node}
 use Rattle.cfs_ids.specs.declared.errno.Errno.TheVariants.{Enoent, Eexist}
+use Rattle.cfs_ids.specs.declared.call.Call.{Call}
 use Rattle.cfs_ids.specs.declared.call.Call.TheVariants.{Lookup, List as ListCall}
 use Rattle.cfs_ids.specs.declared.call.Reply.{Reply}
 use Rattle.cfs_ids.specs.declared.call.Reply.TheVariants.{Moved, Node as NodeReply, Rows, Refused}
@@ -13,7 +14,7 @@ use Rattle.cfs_ids.specs.Namespace.{answer}
 use Rattle.cfs_steps.specs.declared.contents.Row.{Row}
 use Rattle.cfs_steps.specs.declared.contents.DirRec.{DirRec}
 use Rattle.cfs_rules.specs.Places.{Shard, names_of}
-use Rattle.cfs_steps.specs.Phases.{Phase, Asking, Inserting, maker}
+use Rattle.cfs_steps.specs.Phases.{Phase, Asking, Inserting, maker, has_steps}
 use Rattle.cfs_rules.specs.Worlds.{World, dir_of}
 use Rattle.cfs_rules.specs.Trees.{is_shown, tree}
 use Rattle.cfs_rules.specs.Facts.{space, MovesAllowed, Unlocked}
@@ -31,9 +32,14 @@ reply_of_create None row = Refused Enoent
 reply_of_create (Some r) (Some row) = Refused Eexist
 reply_of_create (Some r) None = Moved
 
+-- a call that has made no step: its steps are built, and its directory counts
+pub record Begins (shard : Shard) (call : Call) : Type 0 where
+  pub built : has_steps call ≡ true
+  pub sees : is_shown shard (dir_of call).0 ≡ true
+
 -- the directory of a call that is still to be answered counts
 abbrev pub Sees : Shard → Option Phase → Type 0
-Sees shard (Some (Asking call)) = is_shown shard (dir_of call).0 ≡ true
+Sees shard (Some (Asking call)) = Begins shard call
 Sees shard (Some (Inserting dir name node ts first)) = is_shown shard dir.0 ≡ true
 Sees shard _ = Unit {0}
 

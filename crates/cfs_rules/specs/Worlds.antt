@@ -1,56 +1,65 @@
 -- Worlds, turns and runs: shards, stores, the roster, and any number of clients.
 use Rattle.std.specs.Prelude.{◌≡◌, ℕ, ◌+◌, ◌%◌, ◌≤◌, List, [], ◌∷◌, ◌++◌, Bool, true, false, nat_lt, Option, Some, None, if◌then◌else◌, ◌==◌}
+use Rattle.std.specs.List.{list_any}
 use Rattle.std.specs.FinMap.{empty}
 use Rattle.cfs_ids.specs.declared.ids.Client.{Client}
 use Rattle.cfs_ids.specs.declared.ids.DirId.{DirId}
 use Rattle.cfs_ids.specs.declared.ids.Stamp.{Stamp}
 use Rattle.cfs_ids.specs.declared.ids.PlaceNo.{PlaceNo}
 use Rattle.cfs_ids.specs.declared.ids.Actor.TheVariants.{Client as ClientActor}
+use Rattle.cfs_ids.specs.declared.ids.Node.TheVariants.{Dir}
 use Rattle.cfs_ids.specs.declared.call.Call.{Call}
-use Rattle.cfs_ids.specs.declared.call.Call.TheVariants.{Lookup, List as ListCall, Create, Mkdir}
+use Rattle.cfs_ids.specs.declared.call.Call.TheVariants.{Lookup, List as ListCall, Stat, Create, Mkdir, Unlink, Rmdir, Rename}
+use Rattle.cfs_ids.specs.declared.call.Reply.{Reply}
+use Rattle.cfs_ids.specs.declared.call.Reply.TheVariants.{Node as NodeReply}
 use Rattle.cfs_steps.specs.declared.ask.Ask.{Ask}
 use Rattle.cfs_steps.specs.declared.ask.Ask.TheVariants.{Put, PutDir, End}
 use Rattle.cfs_steps.specs.declared.entry.Entry.{Entry}
 use Rattle.cfs_steps.specs.declared.call_done.CallDone.{CallDone}
 use Rattle.cfs_steps.specs.declared.call_done.ClientCalls.{ClientCalls}
 use Rattle.cfs_steps.specs.Asks.{place_of}
-use Rattle.cfs_steps.specs.Phases.{Phase, Asking, Inserting, Settling, TakingBack, Finished, maker, ask_of, heard}
+use Rattle.cfs_steps.specs.Phases.{Phase, Asking, Inserting, Settling, TakingBack, Finished, maker, has_steps, ask_of, heard}
 use Rattle.cfs_rules.specs.Places.{Shard, Store, Roster, Served, entry_by, number_after, serve_shard, serve_store, serve_roster, opening_shard}
 
 abbrev pub client_of : ℕ → Client
 client_of c = record { 0 = c }
 
--- ---- a client: its current call, the calls that wait, whether it has ended, its last number, how many nodes it has put,
--- and the calls that are done
+-- ---- what a client does: it ends, or it makes a call, and goes on by the reply
+pub data Plan : Type 0 where
+  Ends : Plan
+  Calls : Call → (Reply → Plan) → Plan
+
+-- ---- a client: its current call, what it does once that is answered, whether it has ended, its last number, how many nodes
+-- it has put, and the calls that are done
 pub record Progress : Type 0 where
   pub current : Option Phase
-  pub waiting : List Call
+  pub rest : Reply → Plan
   pub ended : Bool
   pub last : ℕ
   pub puts : ℕ
   pub done : List CallDone
 
-abbrev pub first_of : List Call → Option Phase
-first_of [] = None
-first_of (call ∷ calls) = Some (Asking call)
+abbrev pub first_of : Plan → Option Phase
+first_of Ends = None
+first_of (Calls call next) = Some (Asking call)
 
-abbrev pub rest_of : List Call → List Call
-rest_of [] = []
-rest_of (call ∷ calls) = calls
+abbrev pub rest_of : Plan → Reply → Plan
+rest_of Ends reply = Ends
+rest_of (Calls call next) reply = next reply
 
--- a client that has these calls to make
-abbrev pub starts : List Call → Progress
-starts calls = record { current = first_of calls; waiting = rest_of calls; ended = false; last = 0; puts = 0; done = [] }
+-- a client at the start of its plan
+abbrev pub starts : Plan → Progress
+starts plan = record { current = first_of plan; rest = rest_of plan; ended = false; last = 0; puts = 0; done = [] }
 
 -- how many shards and stores there are
 pub record Counts : Type 0 where
   pub shards : ℕ
   pub stores : ℕ
 
--- these, and the calls of each client
+-- these, and the plan of each client
 pub record Setup : Type 0 where
   pub counts : Counts
-  pub calls : ℕ → List Call
+  pub plans : ℕ → Plan
 
 -- ---- a client's n-th put, counted over files and directories together, goes to the place (client + n) modulo their number
 abbrev pub places_for : Counts → Call → ℕ
@@ -75,13 +84,13 @@ puts_in (Put client at home) = 1
 puts_in (PutDir client at dir name) = 1
 puts_in ask = 0
 
--- a call that has finished makes room for the next
+-- a call that has finished makes room for the next, which its reply decides
 abbrev pub with_phase : Progress → Entry → Phase → Progress
-with_phase p entry (Finished done) = record { current = first_of p.waiting; waiting = rest_of p.waiting; ended = p.ended; last = entry.number; puts = p.puts + puts_in entry.ask; done = p.done ++ done ∷ [] }
-with_phase p entry phase = record { current = Some phase; waiting = p.waiting; ended = p.ended; last = entry.number; puts = p.puts + puts_in entry.ask; done = p.done }
+with_phase p entry (Finished done) = record { current = first_of (p.rest done.reply); rest = rest_of (p.rest done.reply); ended = p.ended; last = entry.number; puts = p.puts + puts_in entry.ask; done = p.done ++ done ∷ [] }
+with_phase p entry phase = record { current = Some phase; rest = p.rest; ended = p.ended; last = entry.number; puts = p.puts + puts_in entry.ask; done = p.done }
 
 abbrev pub after_entry : Progress → Option Phase → PlaceNo → Entry → Progress
-after_entry p None place entry = record { current = None; waiting = p.waiting; ended = true; last = entry.number; puts = p.puts; done = p.done }
+after_entry p None place entry = record { current = None; rest = p.rest; ended = true; last = entry.number; puts = p.puts; done = p.done }
 after_entry p (Some phase) place entry = with_phase p entry (heard phase place entry)
 
 -- the client after the entry of its step
@@ -116,7 +125,7 @@ opening setup = record {
   store = empty;
   roster = [];
   lasts = λ place. 0;
-  clients = λ c. starts (setup.calls c);
+  clients = λ c. starts (setup.plans c);
   run = [];
 }
 
@@ -188,15 +197,35 @@ abbrev pub played : Setup → List ℕ → World
 played setup turns = run_of setup.counts turns (opening setup)
 
 -- ---- what is known of a setup
+-- the directory that a call asks in
 abbrev pub dir_of : Call → DirId
 dir_of (Lookup dir name) = dir
 dir_of (ListCall dir) = dir
+dir_of (Stat dir name) = dir
 dir_of (Create dir name) = dir
 dir_of (Mkdir dir name) = dir
+dir_of (Unlink dir name) = dir
+dir_of (Rmdir dir name) = dir
+dir_of (Rename dir name to_dir to_name) = dir
+dir_of call = record { 0 = 0 }
 
-abbrev pub AreInRoot : List Call → Type 0
-AreInRoot [] = Unit {0}
-AreInRoot (call ∷ calls) = ((dir_of call).0 ≡ 0) × AreInRoot calls
+abbrev pub knows : List ℕ → ℕ → Bool
+knows dirs dir = list_any (λ d. d == dir) dirs
+
+-- the directories that a client knows once it has this reply
+abbrev pub with_told : Reply → List ℕ → List ℕ
+with_told (NodeReply (Dir dir)) dirs = dir.0 ∷ dirs
+with_told reply dirs = dirs
+
+-- the steps of the call are built, and it asks in a directory that the client knows
+pub record MayAsk (dirs : List ℕ) (call : Call) : Type 0 where
+  pub built : has_steps call ≡ true
+  pub known : knows dirs (dir_of call).0 ≡ true
+
+-- whatever the replies are, each call of the plan asks in one of these directories, or in one that a reply has told
+abbrev pub KeepsTo : List ℕ → Plan → Type 0
+KeepsTo dirs Ends = Unit {0}
+KeepsTo dirs (Calls call next) = MayAsk dirs call × ((reply : Reply) → KeepsTo (with_told reply dirs) (next reply))
 
 abbrev pub IsCount : ℕ → Type 0
 IsCount n = (1 ≤ n) × (n ≤ 64)
@@ -206,7 +235,7 @@ pub record AreCounts (counts : Counts) : Type 0 where
   pub shards : IsCount counts.shards
   pub stores : IsCount counts.stores
 
--- and all calls are on the root's names
+-- and each client begins with the root alone
 pub record IsSetup (setup : Setup) : Type 0 where
   pub counts : AreCounts setup.counts
-  pub calls : (c : ℕ) → AreInRoot (setup.calls c)
+  pub plans : (c : ℕ) → KeepsTo (0 ∷ []) (setup.plans c)

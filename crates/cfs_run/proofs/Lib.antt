@@ -1,4 +1,4 @@
-pub mod Answered
+pub mod Following
 pub mod Members
 pub mod Printing
 pub mod Setups

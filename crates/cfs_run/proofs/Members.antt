@@ -7,10 +7,11 @@ use Rattle.cfs_ids.specs.declared.ids.Actor.{Actor}
 use Rattle.cfs_ids.specs.declared.ids.Actor.TheVariants.{Client as ClientTurn}
 use Rattle.cfs_ids.specs.declared.ids.Client.{Client}
 use Rattle.cfs_rules.specs.Members.{HasCallers, IsBelowAll, IsRising}
+use Rattle.cfs_rules.specs.Worlds.{Ends}
 use Rattle.cfs_walk.specs.declared.command.Command.{Command}
 use Rattle.cfs_script.specs.Lists.{rises_from}
 use Rattle.cfs_script.specs.Outcomes as script
-use Rattle.cfs_core.specs.Opening.{calls_in, members_in}
+use Rattle.cfs_core.specs.Opening.{plans_in, members_in}
 use Rattle.cfs_law_tree.specs.Drives.{is_turn_of, are_turns_of}
 
 abbrev pub Lists : Type 0
@@ -38,11 +39,11 @@ either : (a b : Bool) → b ≡ true → (a || b) ≡ true
 either true b e = refl
 either false b e = e
 
-pub callers : (lists : Lists) → HasCallers (calls_in lists) (members_in lists)
+pub callers : (lists : Lists) → HasCallers (plans_in lists) (members_in lists)
 callers [] c some = absurd (some refl)
 callers (l ∷ lists) c some = by_test (l.0.0 == c) refl (callers lists c)
   where
-    by_test : (b : Bool) → (l.0.0 == c) ≡ b → (calls_in lists c ≢ [] → list_any (λ m. m == c) (members_in lists) ≡ true) → list_any (λ m. m == c) (members_in (l ∷ lists)) ≡ true
+    by_test : (b : Bool) → (l.0.0 == c) ≡ b → (plans_in lists c ≢ Ends → list_any (λ m. m == c) (members_in lists) ≡ true) → list_any (λ m. m == c) (members_in (l ∷ lists)) ≡ true
     by_test true e later = rw e refl
     by_test false e later = either (l.0.0 == c) (list_any (λ m. m == c) (members_in lists)) (later (rw e at some))
 

@@ -19,7 +19,7 @@ use Rattle.cfs_run.proofs.Members.{rising}
 -- the parts of a run, printed
 pub of-run : (script : Script) (run : Run) (p : Printed) → IsInForm script → IsRunOf (members_in script.commands) (world_after script) run
     → IsJudged (members_in script.commands) (world_after script) p.history
-    → p.shards ≡ script.shards → p.stores ≡ script.stores → p.replies ≡ replies_of run.calls.items
+    → p.shards ≡ script.shards → p.stores ≡ script.stores → p.replies ≡ replies_of script.commands run.calls.items
     → p.tree ≡ tree (held run.places).shard (held run.places).store → p.steps ≡ length run.entries → p.tally ≡ tallied (held run.places)
     → IsReplayOf script p
 of-run script run p form of judged shards stores replies trees steps tally = record {
@@ -29,7 +29,7 @@ of-run script run p form of judged shards stores replies trees steps tally = rec
   calls = judged.calls;
   history = judged.history;
   tree = printed_tree;
-  replies = replies ∙ ap replies_of (of.calls (rising 0 script.commands form.rising).1);
+  replies = replies ∙ ap (replies_of script.commands) (of.calls (rising 0 script.commands form.rising).1);
   steps = steps ∙ sym (length-reverse run.entries) ∙ ap length of.entries;
   owed = ap (λ (t : Tallied). t.owed) tally ∙ (λ j. owed_in (of.shard j) (of.store j));
   debts = ap (λ (t : Tallied). t.debts) tally;

@@ -54,7 +54,7 @@ fn printed_of(alloc: Global, script: &Script, run: &Run) -> Result<Printed, NoMe
     Ok(Printed {
         shards: script.shards,
         stores: script.stores,
-        replies: replies_of(alloc, run.calls.as_slice())?,
+        replies: replies_of(alloc, script.commands.as_slice(), run.calls.as_slice())?,
         history: history(alloc, run)?,
         tree: tree_of(alloc, &run.places)?,
         steps: run.entries.len() as u64,

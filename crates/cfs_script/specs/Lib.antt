@@ -1,6 +1,5 @@
 pub mod Breaks
 pub mod Built
-pub mod Calls
 pub mod Forms
 pub mod Lists
 pub mod Outcomes

@@ -39,7 +39,8 @@ fn the_first_fault(rt: HostRuntime) -> Result<(), Fail> {
     let behind = [
         (
             None,
-            "|\n|\r\n|#|# x\0\r\u{e9}|client 1 create /\u{e9}~!\n|  client  32   lookup  /...  \r\n|client 2 list /\
+            "|\n|\r\n|#|# x\0\r\u{e9}|client 1 create /\u{e9}~!\n|  client  32   lookup  /...  \r\n|client 2 list /a/b\n|client 1 lookup /a/b/c\n\
+            |client 2 list /\
             |turns 1*3\n|turns  1*1000000",
         ),
         (
@@ -68,7 +69,7 @@ fn the_first_fault(rt: HostRuntime) -> Result<(), Fail> {
         (
             Some(Fault::NotBuilt),
             "client 1 truncate /a 9223372036854775807\n|client 1 rename /a /b\n|client 1 unlink /a\n|client 1 rmdir /a\n\
-            |client 1 stat /\n|client 1 list /a\n|client 1 lookup /a/b\n|stop 1 1000000\n|turns r\n|turns 1 g*5\n",
+            |client 1 stat /\n|client 1 stat /a/b\n|stop 1 1000000\n|turns r\n|turns 1 g*5\n",
         ),
     ];
     for (fault, texts) in behind {
@@ -133,20 +134,8 @@ fn the_limits(rt: HostRuntime) -> Result<(), Fail> {
     let past = "client 1 lookup /01234567890123456789012345678901234\n\n";
     let cases = [
         ("client 1 create /", "a", 255, "\n", None),
-        (
-            "client 1 create /",
-            "a",
-            256,
-            "\n",
-            Some((2, Fault::NotBuilt)),
-        ),
-        (
-            "client 1 create /",
-            "a",
-            1023,
-            "\n",
-            Some((2, Fault::NotBuilt)),
-        ),
+        ("client 1 create /", "a", 256, "\n", None),
+        ("client 1 create /", "a", 1023, "\n", None),
         (
             "client 1 create /",
             "a",
@@ -168,6 +157,7 @@ fn the_limits(rt: HostRuntime) -> Result<(), Fail> {
             "\n",
             Some((2, Fault::LineTooLong)),
         ),
+        ("client 1 list ", "/a", 64, "\n", None),
         ("client 1 stat ", "/a", 64, "\n", Some((2, Fault::NotBuilt))),
         ("client 1 stat ", "/a", 65, "\n", Some((2, Fault::BadPath))),
         ("#", "x", 4095, "\n", None),

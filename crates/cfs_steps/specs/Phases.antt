@@ -44,11 +44,20 @@ shard_place index = record { 0 = index }
 abbrev pub store_place : ℕ → PlaceNo
 store_place index = record { 0 = 64 + index }
 
+-- whether the steps of the call are built; no client makes another call
+abbrev pub has_steps : Call → Bool
+has_steps (Lookup dir name) = true
+has_steps (ListCall dir) = true
+has_steps (Create dir name) = true
+has_steps (Mkdir dir name) = true
+has_steps call = false
+
 abbrev pub first_ask : Client → ℕ → Call → Ask
 first_ask client index (Lookup dir name) = Read dir name
 first_ask client index (ListCall dir) = ListAsk dir
 first_ask client index (Create dir name) = Put client (store_place index) dir
 first_ask client index (Mkdir dir name) = PutDir client (shard_place index) dir name
+first_ask client index call = End client
 
 -- what the call asks next; index is that of the shard or store of the client's next put
 abbrev pub ask_of : Client → ℕ → Phase → Ask

@@ -4,7 +4,9 @@ ghost use Rattle.cfs_ids.specs.Names.{is_allowed};
 ghost use Rattle.cfs_core.specs.Cores.{members_of};
 
 use cfs_core::{Core, Run, Turned};
-use cfs_ids::{Actor, At, Call, Client, DirId, Errno, NoMemory, Node, PlaceNo, Reply, Stamp};
+use cfs_ids::{
+    Actor, At, Call, Client, DirId, Errno, FileId, NoMemory, Node, PlaceNo, Reply, Stamp,
+};
 use cfs_script::{Command, CommandLists, Script, TurnList};
 use cfs_walk::{Component, Path};
 use std::alloc::Global;
@@ -186,5 +188,110 @@ fn a_run_that_is_left_has_begun_calls(rt: HostRuntime) -> Result<(), Fail> {
     assert!(rt; matches!(begun, Some((Call::Mkdir { .. }, first)) if *first == stamp(1, 1)));
     let begun = &second.begun;
     assert!(rt; matches!(begun, Some((Call::Create { .. }, first)) if *first == stamp(64, 1)));
+    Ok(())
+}
+
+// The steps of `walked`, each by its place and its number.
+const WALKED: [(u32, u64); 9] = [
+    (1, 1),
+    (0, 2),
+    (1, 3),
+    (0, 4),
+    (64, 5),
+    (1, 6),
+    (64, 7),
+    (0, 5),
+    (1, 7),
+];
+
+// The path of a name of one byte in the directory a of the root.
+fn in_a(alloc: Global, byte: u8) -> Result<Path, Fail>
+    requires { IsTrue (is_allowed byte) }
+    ensures { IfOk result (λ path. path ≡ (97 ∷ []) ∷ (byte ∷ []) ∷ []) }
+{
+    let mut path = entry(alloc, b'a')?;
+    let mut name = Component::new(alloc);
+    name.push(byte)?;
+    path.push(name)?;
+    Ok(path)
+}
+
+// Client 1 makes the directory a and in it the file b, and client 2 lists a.
+fn walks(alloc: Global) -> Result<Core, Fail>
+    ensures { IfOk result (λ core. members_of core ≡ 1 ∷ 2 ∷ []) }
+{
+    let mut commands = CommandLists::new(alloc);
+    let mkdir = Command::Mkdir(entry(alloc, b'a')?);
+    commands.add(alloc, Client(1), mkdir)?;
+    let create = Command::Create(in_a(alloc, b'b')?);
+    commands.add(alloc, Client(1), create)?;
+    let list = Command::List(entry(alloc, b'a')?);
+    commands.add(alloc, Client(2), list)?;
+    let script = Script {
+        shards: 2,
+        stores: 1,
+        commands,
+        turns: TurnList::new(alloc),
+    };
+    Ok(Core::begin(alloc, &script)?)
+}
+
+// The run of both, client 1 first: its directory is 65, in shard 1, and its file 320.
+fn walked(rt: &(impl Abort + AllocGlobal)) -> Result<Run, Fail> {
+    let mut core = walks(rt.alloc())?;
+    step(rt, &mut core, 1)?;
+    step(rt, &mut core, 1)?;
+    step(rt, &mut core, 1)?;
+    step(rt, &mut core, 1)?;
+    step(rt, &mut core, 1)?;
+    step(rt, &mut core, 1)?;
+    step(rt, &mut core, 1)?;
+    step(rt, &mut core, 2)?;
+    step(rt, &mut core, 2)?;
+    finished(rt, core)
+}
+
+#[test]
+fn a_walk_takes_a_step_for_each_component(rt: HostRuntime) -> Result<(), Fail> {
+    let run = walked(&rt)?;
+    let mut steps = Vec::new(rt.alloc());
+    for entry in run.entries.as_slice() {
+        steps.push((entry.0.0, entry.1.number))?;
+    }
+    assert_eq!(rt; steps.as_slice(), WALKED.as_slice());
+    Ok(())
+}
+
+#[test]
+fn a_create_is_in_the_directory_that_was_looked_up(rt: HostRuntime) -> Result<(), Fail> {
+    let run = walked(&rt)?;
+    let [calls, _] = run.calls.as_slice() else {
+        panic!(rt; "there are not two clients");
+    };
+    let [_, lookup, create] = calls.done.as_slice() else {
+        panic!(rt; "there are not three calls");
+    };
+    assert!(rt; matches!(&lookup.call, Call::Lookup { dir: DirId(0), .. }));
+    assert!(rt; matches!(&lookup.reply, Reply::Node(Node::Dir(DirId(65)))));
+    assert!(rt; matches!(&create.call, Call::Create { dir: DirId(65), .. }));
+    assert!(rt; matches!(&create.reply, Reply::Moved));
+    assert_eq!(rt;
+        (create.ts, create.made),
+        (5, Some(Node::File(FileId(320))))
+    );
+    Ok(())
+}
+
+#[test]
+fn a_list_is_of_the_directory_that_was_looked_up(rt: HostRuntime) -> Result<(), Fail> {
+    let run = walked(&rt)?;
+    let [_, calls] = run.calls.as_slice() else {
+        panic!(rt; "there are not two clients");
+    };
+    let [_, list] = calls.done.as_slice() else {
+        panic!(rt; "there are not two calls");
+    };
+    assert!(rt; matches!(&list.call, Call::List { dir: DirId(65) }));
+    assert!(rt; matches!(&list.reply, Reply::Rows(rows) if rows.len() == 1));
     Ok(())
 }

@@ -44,10 +44,20 @@ fn names(rt: HostRuntime) -> Result<(), Fail> {
 
 #[test]
 fn errnos_and_times(rt: HostRuntime) {
-    assert_eq!(rt; errno_text(Errno::Enoent), "ENOENT");
-    assert_eq!(rt; errno_text(Errno::Eexist), "EEXIST");
-    assert_eq!(rt; errno_of(b"ENOENT"), Some(Errno::Enoent));
-    assert_eq!(rt; errno_of(b"EEXIST"), Some(Errno::Eexist));
+    let names = [
+        (Errno::Enoent, "ENOENT"),
+        (Errno::Eexist, "EEXIST"),
+        (Errno::Enotdir, "ENOTDIR"),
+        (Errno::Eisdir, "EISDIR"),
+        (Errno::Enotempty, "ENOTEMPTY"),
+        (Errno::Eperm, "EPERM"),
+        (Errno::Einval, "EINVAL"),
+        (Errno::Enametoolong, "ENAMETOOLONG"),
+    ];
+    for (errno, name) in names {
+        assert_eq!(rt; errno_text(errno), name);
+        assert_eq!(rt; errno_of(name.as_bytes()), Some(errno));
+    }
     assert_eq!(rt; errno_of(b"EEXISTS"), None);
     assert_eq!(rt; later(3, 7), 7);
     assert_eq!(rt; number_of(7), 7);

@@ -20,4 +20,6 @@ mod steps;
 #[cfg(test)]
 mod tree;
 #[cfg(test)]
+mod tree_calls;
+#[cfg(test)]
 mod writer;

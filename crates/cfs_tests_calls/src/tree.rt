@@ -1,3 +1,7 @@
+//! The sequential namespace: its parts set one by one, and read.
+ghost use Rattle.std.specs.Prelude.{IfOk};
+ghost use Rattle.cfs_ids.specs.Namespace.{IsWhole};
+
 use cfs_ids::{Call, DirId, Errno, FileId, Name, NoMemory, Node, Reply};
 use cfs_tree::Namespace;
 use std::alloc::Global;
@@ -12,7 +16,9 @@ fn named(alloc: Global, bytes: &[u8]) -> Result<Name, NoMemory> {
 }
 
 // The root with a file 64 named a, made at time 3.
-fn with_a_file(alloc: Global) -> Result<Namespace, NoMemory> {
+fn with_a_file(alloc: Global) -> Result<Namespace, NoMemory>
+    ensures { IfOk result (λ namespace. IsWhole namespace) }
+{
     let name = named(alloc, b"a")?;
     let mut namespace = Namespace::empty_root(alloc)?;
     let create = Call::Create {
@@ -24,7 +30,9 @@ fn with_a_file(alloc: Global) -> Result<Namespace, NoMemory> {
 }
 
 // The root with a directory 65 named d, made at time 3.
-fn with_a_directory(alloc: Global) -> Result<Namespace, NoMemory> {
+fn with_a_directory(alloc: Global) -> Result<Namespace, NoMemory>
+    ensures { IfOk result (λ namespace. IsWhole namespace) }
+{
     let name = named(alloc, b"d")?;
     let mut namespace = Namespace::empty_root(alloc)?;
     let mkdir = Call::Mkdir {
@@ -51,6 +59,9 @@ fn the_root_is_empty(rt: HostRuntime) -> Result<(), NoMemory> {
 fn a_file_is_made(rt: HostRuntime) -> Result<(), NoMemory> {
     let alloc = rt.alloc();
     let mut namespace = with_a_file(alloc)?;
+    let name = named(alloc, b"a")?;
+    let stat = namespace.answer(alloc, &Call::Stat { dir: ROOT, name })?;
+    assert!(rt; matches!(stat, Reply::FileStat { size: 0, time: 3 }));
     assert!(rt; namespace.counts(ROOT) == Some((1, 2)));
     assert!(rt; !namespace.forget(FileId(64)));
     assert!(rt; namespace.next_file(None) == Some((FileId(64), 0, 3)));

@@ -4,6 +4,8 @@
 #[cfg(test)]
 mod creates;
 #[cfg(test)]
+mod deep;
+#[cfg(test)]
 mod faults;
 #[cfg(test)]
 mod many;
@@ -11,6 +13,8 @@ mod many;
 mod mkdirs;
 #[cfg(test)]
 mod names;
+#[cfg(test)]
+mod paths;
 #[cfg(test)]
 mod places;
 #[cfg(test)]

@@ -138,8 +138,6 @@ fn what_is_not_built(rt: HostRuntime) -> Result<(), Fail> {
         ("client 1 rmdir /a", Fault::NotBuilt),
         ("client 1 truncate /a 0", Fault::NotBuilt),
         ("client 1 rename /a /b", Fault::NotBuilt),
-        ("client 1 create /a/b", Fault::NotBuilt),
-        ("client 1 list /a", Fault::NotBuilt),
         ("stop 1 0", Fault::NotBuilt),
         ("turns r", Fault::NotBuilt),
         ("turns 1 g*5", Fault::NotBuilt),
@@ -199,13 +197,6 @@ fn refuses_long(
     let outcome = outcome(rt, script.as_slice(), 0, 1000)?;
     assert_eq!(rt; outcome, refused(line, fault), "at {count} of {unit}");
     Ok(())
-}
-
-#[test]
-fn a_name_of_256_bytes(rt: HostRuntime) -> Result<(), Fail> {
-    let want = (2, Fault::NotBuilt);
-    refuses_long(&rt, ("client 1 create /", "\n"), ("n", 256), want)?;
-    refuses_long(&rt, ("client 1 lookup /", "\n"), ("\u{e9}", 128), want)
 }
 
 #[test]

@@ -18,7 +18,7 @@ there : (o : Option Directory) (name : List ℕ) → create_in o name ≡ Moved 
 there None name free = cc
 there (Some d) name free = refl
 
-IsSome-insert : {X : Type 0} (m : Numbers X) (key other : ℕ) (x : X) → IsSome (get m key) → IsSome (get (insert m other x) key)
+pub IsSome-insert : {X : Type 0} (m : Numbers X) (key other : ℕ) (x : X) → IsSome (get m key) → IsSome (get (insert m other x) key)
 IsSome-insert m key other x some = grind (arith, nat_tests, gets)
 
 -- and it stays there beside the new node

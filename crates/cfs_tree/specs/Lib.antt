@@ -2,4 +2,4 @@ pub mod Added
 pub mod Codes
 pub mod Made
 pub mod Memory
-pub mod Rows
+pub mod Upward

@@ -2,26 +2,48 @@
 ghost use Rattle.std.specs.Prelude.{◌≡◌, IfOk, IsOk, false};
 ghost use Rattle.std.specs.Option.{option_map};
 ghost use Rattle.std.specs.FinMap as map;
-ghost use Rattle.cfs_ids.specs.Namespace.{answer, lookup_in, list_of, create_in, children_of, links_of, is_listed};
+ghost use Rattle.cfs_ids.specs.Namespace.{answer, lookup_in, list_of, dir_stat, file_stat, stat_of, create_in, unlinked, is_empty, removed, cut_to, node_at, children_of, links_of, is_listed, IsWhole};
 ghost use Rattle.cfs_tree.specs.Memory.{takes_memory};
 
 use crate::namespace::Namespace;
 use crate::rows::any_names_it;
-use cfs_ids::{Call, DirId, Errno, FileId, Name, NoMemory, Reply};
+use cfs_ids::{Call, DirId, Errno, FileId, Name, NoMemory, Node, Reply};
 use std::alloc::Global;
 
 impl Namespace {
-    /// What the call is answered. The Err is want of memory, which a list alone takes.
+    /// What the call is answered in a whole namespace, by the first line that applies (POSIX.1-2017, System Interfaces,
+    /// ERRORS of `open`, `mkdir`, `unlink`, `rmdir`, `truncate`, `stat`, `opendir` and `rename`):
+    /// - all: ENOENT where the directory, the name or the file isn't there;
+    /// - `Create` and `Mkdir`: EEXIST where the name is there;
+    /// - `Unlink`: EPERM for a directory;
+    /// - `Rmdir`: ENOTDIR for a file, ENOTEMPTY for a directory that has names;
+    /// - `Rename`: Kept where both names are one, ENOENT where `to_dir` isn't there, EISDIR for a file onto a directory,
+    ///   ENOTDIR for a directory onto a file, ENOTEMPTY onto a directory that has names, EINVAL for a directory into
+    ///   itself or below.
+    ///
+    /// The Err is want of memory, which a list alone takes.
     pub fn answer(&self, alloc: Global, call: &Call) -> Result<Reply, NoMemory>
+        requires { IsWhole self.now }
         ensures reply { IfOk result (λ reply. reply ≡ answer self.now call.now) }
         ensures sure { takes_memory call.now ≡ false → IsOk result }
     {
         match call {
             Call::Lookup { dir, name } => Ok(self.answer_lookup(*dir, name)),
             Call::List { dir } => self.answer_list(alloc, *dir),
+            Call::StatRoot => Ok(self.answer_stat_dir(DirId(0))),
+            Call::Stat { dir, name } => Ok(self.answer_stat(*dir, name)),
             Call::Create { dir, name } | Call::Mkdir { dir, name } => {
                 Ok(self.answer_new(*dir, name))
             }
+            Call::Unlink { dir, name } => Ok(self.answer_unlink(*dir, name)),
+            Call::Rmdir { dir, name } => Ok(self.answer_rmdir(*dir, name)),
+            Call::Truncate { file, .. } => Ok(self.answer_truncate(*file)),
+            Call::Rename {
+                dir,
+                name,
+                to_dir,
+                to_name,
+            } => Ok(self.answer_rename(*dir, name, *to_dir, to_name)),
         }
     }
 
@@ -46,6 +68,41 @@ impl Namespace {
         }
     }
 
+    fn answer_stat(&self, dir: DirId, name: &Name) -> Reply
+        ensures { result ≡ stat_of self.now (node_at (map.get self.now.dirs dir.0) name.now) }
+    {
+        match self.node_at(dir, name) {
+            None => Reply::Refused(Errno::Enoent),
+            Some(Node::Dir(dir)) => self.answer_stat_dir(dir),
+            Some(Node::File(file)) => self.answer_stat_file(file),
+        }
+    }
+
+    fn answer_stat_dir(&self, dir: DirId) -> Reply
+        ensures { result ≡ dir_stat (map.get self.now.dirs dir.0) }
+    {
+        match self.dirs.get(dir.0) {
+            Some(directory) => Reply::DirStat {
+                children: directory.children(),
+                links: directory.links(),
+                time: directory.time(),
+            },
+            None => Reply::Refused(Errno::Enoent),
+        }
+    }
+
+    fn answer_stat_file(&self, file: FileId) -> Reply
+        ensures { result ≡ file_stat (map.get self.now.files file.0) }
+    {
+        match self.files.get(file.0) {
+            Some(facts) => Reply::FileStat {
+                size: facts.size(),
+                time: facts.time(),
+            },
+            None => Reply::Refused(Errno::Enoent),
+        }
+    }
+
     // Whether a new node may take the name.
     fn answer_new(&self, dir: DirId, name: &Name) -> Reply
         ensures { result ≡ create_in (map.get self.now.dirs dir.0) name.now }
@@ -56,6 +113,56 @@ impl Namespace {
         match directory.get(name) {
             Some(_) => Reply::Refused(Errno::Eexist),
             None => Reply::Moved,
+        }
+    }
+
+    fn answer_unlink(&self, dir: DirId, name: &Name) -> Reply
+        ensures { result ≡ unlinked (node_at (map.get self.now.dirs dir.0) name.now) }
+    {
+        match self.node_at(dir, name) {
+            None => Reply::Refused(Errno::Enoent),
+            Some(Node::Dir(_)) => Reply::Refused(Errno::Eperm),
+            Some(Node::File(_)) => Reply::Moved,
+        }
+    }
+
+    fn answer_rmdir(&self, dir: DirId, name: &Name) -> Reply
+        ensures { result ≡ removed self.now (node_at (map.get self.now.dirs dir.0) name.now) }
+    {
+        match self.node_at(dir, name) {
+            None => Reply::Refused(Errno::Enoent),
+            Some(Node::File(_)) => Reply::Refused(Errno::Enotdir),
+            Some(Node::Dir(child)) if self.is_empty(child) => Reply::Moved,
+            Some(Node::Dir(_)) => Reply::Refused(Errno::Enotempty),
+        }
+    }
+
+    fn answer_truncate(&self, file: FileId) -> Reply
+        ensures { result ≡ cut_to (map.get self.now.files file.0) }
+    {
+        match self.files.get(file.0) {
+            Some(_) => Reply::Moved,
+            None => Reply::Refused(Errno::Enoent),
+        }
+    }
+
+    // The node of the name, None where the directory or the name isn't there.
+    pub(crate) fn node_at(&self, dir: DirId, name: &Name) -> Option<Node>
+        ensures { result ≡ node_at (map.get self.now.dirs dir.0) name.now }
+    {
+        match self.dirs.get(dir.0) {
+            Some(directory) => directory.get(name),
+            None => None,
+        }
+    }
+
+    // Whether the directory has no names.
+    pub(crate) fn is_empty(&self, dir: DirId) -> bool
+        ensures { result ≡ is_empty (map.get self.now.dirs dir.0) }
+    {
+        match self.dirs.get(dir.0) {
+            Some(directory) => directory.children() == 0,
+            None => true,
         }
     }
 

@@ -7,12 +7,12 @@ ghost use Rattle.std.specs.List.{list_any};
 ghost use Rattle.std.specs.Ordering.{nat_cmp};
 ghost use Rattle.std.specs.Cmp.Lexicographic.{slice_cmp};
 ghost use Rattle.cfs_ids.specs.declared.ids.Node.{Node};
-ghost use Rattle.cfs_ids.specs.Namespace.{children_of, links_of, names_file};
+ghost use Rattle.cfs_ids.specs.Namespace.{children_of, links_of, is_node};
 ghost use Rattle.cfs_maps.specs.Walks.{entries_after, first_of};
 
 use crate::rows::{dirs_in, list_of, names_it, names_of};
 use crate::same::same_names;
-use cfs_ids::{FileId, Name, NoMemory, Node, RowList, Ts, later};
+use cfs_ids::{Name, NoMemory, Node, RowList, Ts, later};
 use cfs_maps::NameMap;
 use std::alloc::Global;
 use std::collections::btree_map::Iter;
@@ -88,11 +88,11 @@ impl Directory {
         2 + dirs_in(&self.names)
     }
 
-    /// Whether a name is this file's.
-    pub fn names_it(&self, file: FileId) -> bool
-        ensures { result ≡ list_any (λ row. names_file file.0 row.1) (map.entries self.now.names) }
+    /// Whether a name is this node's.
+    pub fn names_it(&self, node: Node) -> bool
+        ensures { result ≡ list_any (λ row. is_node node row.1) (map.entries self.now.names) }
     {
-        names_it(&self.names, file)
+        names_it(&self.names, node)
     }
 
     /// The rows, by rising names. The Err is want of memory.
@@ -155,5 +155,13 @@ impl Directory {
         self.set(name, node)?;
         self.time = later(self.time, time);
         Ok(())
+    }
+
+    /// Takes the name out, and makes the time no earlier than this.
+    pub(crate) fn cut(&mut self, name: &Name, time: Ts)
+        ensures { self.new ≡ record { names = map.remove self.old.names name.now; time = max self.old.time time } }
+    {
+        let _ = self.names.cut(name);
+        self.time = later(self.time, time);
     }
 }

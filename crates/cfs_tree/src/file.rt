@@ -1,7 +1,7 @@
 //! What the namespace says of a file.
-ghost use Rattle.std.specs.Prelude.{◌≡◌, IsTrue, ◌↔◌};
+ghost use Rattle.std.specs.Prelude.{◌≡◌, IsTrue, ◌↔◌, max};
 
-use cfs_ids::Ts;
+use cfs_ids::{Ts, later};
 use std::marker::Model;
 
 /// The size of a file in bytes, and its time.
@@ -49,5 +49,13 @@ impl FileFacts {
         ensures { IsTrue result ↔ (self.now ≡ other.now) }
     {
         self.size == other.size && self.time == other.time
+    }
+
+    /// Sets the size, and makes the time no earlier than this.
+    pub(crate) fn set_size(&mut self, size: u64, time: Ts)
+        ensures { self.new ≡ record { size = size; time = max self.old.time time } }
+    {
+        self.size = size;
+        self.time = later(self.time, time);
     }
 }

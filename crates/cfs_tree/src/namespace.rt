@@ -1,7 +1,7 @@
 //! The sequential namespace.
 ghost use Rattle.std.specs.Prelude.{◌≡◌, IfOk};
 ghost use Rattle.std.specs.FinMap as map;
-ghost use Rattle.cfs_ids.specs.Namespace.{empty_root};
+ghost use Rattle.cfs_ids.specs.Namespace.{empty_root, IsWhole};
 
 use crate::directory::Directory;
 use crate::file::FileFacts;
@@ -41,9 +41,10 @@ impl Namespace {
         }
     }
 
-    /// The root, empty and at time 0, and no file. The Err is want of memory.
+    /// The root, empty and at time 0, and no file, which is a whole namespace. The Err is want of memory.
     pub fn empty_root(alloc: Global) -> Result<Namespace, NoMemory>
-        ensures { IfOk result (λ namespace. namespace ≡ empty_root) }
+        ensures root { IfOk result (λ namespace. namespace ≡ empty_root) }
+        ensures whole { IfOk result (λ namespace. IsWhole namespace) }
     {
         let mut dirs = NumberMap::new(alloc);
         match dirs.set(0, Directory::new(alloc, 0)) {

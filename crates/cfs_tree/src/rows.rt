@@ -3,10 +3,11 @@ ghost use Rattle.std.specs.Prelude.{◌≡◌, IfOk, ◌^◌, ◌<◌};
 ghost use Rattle.std.specs.List.{list_any};
 ghost use Rattle.std.specs.FinMap as map;
 ghost use Rattle.cfs_ids.specs.Maps.{how_many};
-ghost use Rattle.cfs_ids.specs.Namespace.{is_dir, names_file, is_listed};
+ghost use Rattle.cfs_ids.specs.Namespace.{is_dir, is_node, names_file, names_dir};
+ghost use Rattle.cfs_tree.specs.Upward.{parent_among};
 
 use crate::directory::Directory;
-use cfs_ids::{FileId, Name, NoMemory, Node, RowList};
+use cfs_ids::{DirId, FileId, Name, NoMemory, Node, RowList};
 use cfs_maps::{NameMap, NumberMap};
 use std::alloc::Global;
 
@@ -64,22 +65,12 @@ pub(crate) fn dirs_in(names: &NameMap<Node>) -> u64
     count
 }
 
-// Whether the node is this file.
-fn is_file(node: Node, file: FileId) -> bool
-    ensures { result ≡ names_file file.0 node }
+// Whether a name is this node's.
+pub(crate) fn names_it(names: &NameMap<Node>, node: Node) -> bool
+    ensures { result ≡ list_any (λ row. is_node node row.1) (map.entries names.now) }
 {
-    match node {
-        Node::Dir(_) => false,
-        Node::File(other) => other == file,
-    }
-}
-
-// Whether a name is this file's.
-pub(crate) fn names_it(names: &NameMap<Node>, file: FileId) -> bool
-    ensures { result ≡ list_any (λ row. names_file file.0 row.1) (map.entries names.now) }
-{
-    for (_, node) in names.iter() {
-        if is_file(*node, file) {
+    for (_, other) in names.iter() {
+        if node == *other {
             return true;
         }
     }
@@ -91,9 +82,21 @@ pub(crate) fn any_names_it(dirs: &NumberMap<Directory>, file: FileId) -> bool
     ensures { result ≡ list_any (λ dir. list_any (λ row. names_file file.0 row.1) (map.entries dir.1.names)) (map.entries dirs.now) }
 {
     for (_, directory) in dirs.iter() {
-        if directory.names_it(file) {
+        if directory.names_it(Node::File(file)) {
             return true;
         }
     }
     false
+}
+
+// The first directory that has a name of this one. None comes exactly where none has.
+pub(crate) fn parent_of(dirs: &NumberMap<Directory>, dir: DirId) -> Option<DirId>
+    ensures { result ≡ parent_among dir (map.entries dirs.now) }
+{
+    for (parent, directory) in dirs.iter() {
+        if directory.names_it(Node::Dir(dir)) {
+            return Some(DirId(*parent));
+        }
+    }
+    None
 }

@@ -5,9 +5,8 @@ ghost use Rattle.std.specs.Ordering.{nat_cmp};
 ghost use Rattle.std.specs.Cmp.Lexicographic.{slice_cmp};
 ghost use Rattle.std.specs.FinMap as map;
 ghost use Rattle.std.specs.Map.Iter.{ShowsInOrder, deref_pair};
-ghost use Rattle.cfs_ids.specs.Namespace.{Directory, FileFacts};
+ghost use Rattle.cfs_ids.specs.Namespace.{Directory, FileFacts, rows_of};
 ghost use Rattle.cfs_maps.specs.Walks.{entries_after, first_of};
-ghost use Rattle.cfs_tree.specs.Rows.{rows_of};
 
 use crate::directory::Directory;
 use crate::file::FileFacts;

@@ -2,6 +2,7 @@
 ghost use Rattle.std.specs.Prelude.{◌≡◌, ◌++◌, ◌∷◌, [], length, slice_get, OnOk, OnErr, IfOk, IfErr};
 ghost use Rattle.std.specs.Option.{option_copied};
 ghost use Rattle.cfs_walk.specs.Commands.{is_in_form};
+ghost use Rattle.cfs_walk.specs.Walks.{has_too_long};
 
 use crate::path::Path;
 use cfs_ids::NoMemory;
@@ -52,6 +53,23 @@ impl Command {
             | Command::Rmdir(path)
             | Command::Truncate(path, _) => path.names_entry(),
             Command::Rename(path, to) => path.names_entry() && to.names_entry(),
+        }
+    }
+
+    /// Whether a component of the command's paths has over 255 bytes, more than a name may.
+    pub fn has_too_long(&self) -> bool
+        ensures { result ≡ has_too_long self.now }
+    {
+        match self {
+            Command::Lookup(path)
+            | Command::List(path)
+            | Command::Stat(path)
+            | Command::Create(path)
+            | Command::Mkdir(path)
+            | Command::Unlink(path)
+            | Command::Rmdir(path)
+            | Command::Truncate(path, _) => path.is_too_long(),
+            Command::Rename(path, to) => path.is_too_long() || to.is_too_long(),
         }
     }
 }

@@ -81,13 +81,6 @@ impl Component {
             bytes: Vec::from_slice(alloc, bytes)?,
         })
     }
-
-    /// A copy.
-    pub fn copy(&self) -> Result<Component, NoMemory>
-        ensures { IfOk result (λ copy. copy ≡ self.now) }
-    {
-        Ok(self.clone()?)
-    }
 }
 
 impl Clone for Component {

@@ -1,10 +1,10 @@
 //! Paths.
-ghost use Rattle.std.specs.Prelude.{◌≡◌, ◌<◌, ◌++◌, ◌∷◌, [], length, slice_get, OnOk, OnErr, IfOk, IfErr};
+ghost use Rattle.std.specs.Prelude.{◌≡◌, ◌<◌, ◌++◌, ◌∷◌, [], length, slice_get, OnOk, OnErr, IfErr};
 ghost use Rattle.std.specs.Option.{option_copied};
 ghost use Rattle.cfs_walk.specs.Paths.{is_filled, names_entry};
+ghost use Rattle.cfs_walk.specs.Walks.{is_too_long};
 
 use crate::component::Component;
-use cfs_ids::NoMemory;
 use std::alloc::{AllocError, Global};
 use std::marker::Model;
 
@@ -70,6 +70,15 @@ impl Path {
         self.len() > 0 && self.is_filled()
     }
 
+    /// Whether a component has over 255 bytes, more than a name may.
+    pub fn is_too_long(&self) -> bool
+        ensures { result ≡ is_too_long self.now }
+    {
+        self.components
+            .iter()
+            .any(|component| component.len() > 255)
+    }
+
     /// Adds a component behind the others, which are fewer than 64. The Err is want of memory, and hands the component
     /// back.
     pub fn push(&mut self, component: Component) -> Result<(), Component>
@@ -82,13 +91,6 @@ impl Path {
             Ok(()) => Ok(()),
             Err(failed) => Err(failed.value),
         }
-    }
-
-    /// A copy.
-    pub fn copy(&self) -> Result<Path, NoMemory>
-        ensures { IfOk result (λ copy. copy ≡ self.now) }
-    {
-        Ok(self.clone()?)
     }
 }
 

@@ -33,7 +33,7 @@ fn path_of(alloc: Global, digits: &[u8]) -> Result<Path, NoMemory> {
 fn components(rt: HostRuntime) -> Result<(), Fail> {
     let mut component = Component::from_bytes(rt.alloc(), b"a~\xff")?;
     assert!(rt; component.push(b'!').is_ok());
-    let copy = component.copy()?;
+    let copy = component.clone()?;
     assert!(rt; copy.as_bytes() == b"a~\xff!".as_slice());
     assert_eq!(rt; copy.len(), 4);
     assert_eq!(rt; copy.get(3), Some(&b'!'));
@@ -43,7 +43,7 @@ fn components(rt: HostRuntime) -> Result<(), Fail> {
 
 #[test]
 fn paths(rt: HostRuntime) -> Result<(), Fail> {
-    let path = path_of(rt.alloc(), b"12")?.copy()?;
+    let path = path_of(rt.alloc(), b"12")?.clone()?;
     assert_eq!(rt; path.len(), 2);
     assert_eq!(rt; path.as_slice().len(), 2);
     assert!(rt; path.get(2).is_none());
@@ -71,12 +71,12 @@ fn commands_in_form(rt: HostRuntime) -> Result<(), Fail> {
         let path = path_of(rt.alloc(), digits)?;
         assert_eq!(rt; path.is_filled(), filled);
         assert_eq!(rt; path.names_entry(), entry);
-        assert_eq!(rt; Command::List(path.copy()?).is_in_form(), filled);
-        assert_eq!(rt; Command::Stat(path.copy()?).is_in_form(), filled);
-        assert_eq!(rt; Command::Lookup(path.copy()?).is_in_form(), entry);
-        assert_eq!(rt; Command::Truncate(path.copy()?, 0).is_in_form(), entry);
+        assert_eq!(rt; Command::List(path.clone()?).is_in_form(), filled);
+        assert_eq!(rt; Command::Stat(path.clone()?).is_in_form(), filled);
+        assert_eq!(rt; Command::Lookup(path.clone()?).is_in_form(), entry);
+        assert_eq!(rt; Command::Truncate(path.clone()?, 0).is_in_form(), entry);
         let other = path_of(rt.alloc(), b"1")?;
-        let moved = Command::Rename(other.copy()?, path.copy()?);
+        let moved = Command::Rename(other.clone()?, path.clone()?);
         assert_eq!(rt; moved.is_in_form(), entry);
         assert_eq!(rt; Command::Rename(path, other).is_in_form(), entry);
     }

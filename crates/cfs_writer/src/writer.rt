@@ -73,7 +73,7 @@ fn put_ask(client: Client, put_index: u32, call: &Call) -> Result<Ask, NoMemory>
             dir: *dir,
             name: name.copy()?,
         }),
-        Call::Lookup { .. } | Call::List { .. } => unreachable!(),
+        _ => unreachable!(),
     }
 }
 
@@ -113,7 +113,7 @@ fn put_place(put_index: u32, call: &Call) -> PlaceNo
     match call {
         Call::Create { .. } => PlaceNo(64 + put_index),
         Call::Mkdir { .. } => PlaceNo(put_index),
-        Call::Lookup { .. } | Call::List { .. } => unreachable!(),
+        _ => unreachable!(),
     }
 }
 

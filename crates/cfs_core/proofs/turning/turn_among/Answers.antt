@@ -11,7 +11,7 @@ use Rattle.cfs_actor.specs.Clients.{client_of, progress_of}
 use Rattle.cfs_view.specs.Held.{Held}
 use Rattle.cfs_view.specs.Views.{held, counts_of}
 use Rattle.cfs_core.specs.Clients.{progress_in, works_with, world_in}
-use Rattle.cfs_core.specs.Reach.{progress_there, places_there}
+use Rattle.cfs_core.specs.Reach.{ProgressThere, RowsThere, places_there}
 use Rattle.cfs_core.specs.Counted.{IsCounted}
 use Rattle.cfs_ids.specs.declared.memory.NoMemory.{NoMemory}
 use Rattle.cfs_core.specs.declared.turned.Turned.{Turned}
@@ -21,7 +21,7 @@ use Rattle.cfs_core.specs.Weave.{world_from}
 use Rattle.cfs_core.proofs.States.{members_of-set, no-index}
 use Rattle.cfs_core.proofs.Turns.{stepped-world, same-clients}
 use Rattle.cfs_core.proofs.Alike.{alike-set}
-use Rattle.cfs_core.proofs.Among.{stepped-counted, stepped-held, there-set, was-progress, was-client}
+use Rattle.cfs_core.proofs.Among.{stepped-counted, stepped-held, stepped-named, there-set, was-progress, was-client}
 use Rattle.cfs_core.proofs.Counting.{asked-low, full-log, many-steps, log-room}
 use Rattle.cfs_core.proofs.turning.turn_among.Goals as goal
 
@@ -83,7 +83,7 @@ returns-clause-many c = λ place e.
     let was : progress_in c.args.clients.now.items c.args.client.0 ≡ progress_of c.index_mut-state.result.now = was-progress c.args.clients.now.items c.in-Some.at c.index_mut-state.result.now c.args.client at c.index_mut-state.ensures.value in
     let full = c.turn_client.ensures.full place e in
     rw length-reverse at (many-steps (reverse c.args.order.now.items) (held c.args.places.now) (progress_in c.args.clients.now.items) full.0
-    (asked-low (counts_of c.args.places.now) c.requires.sound.sized (client_of c.index_mut-state.result.now) (progress_of c.index_mut-state.result.now) full.0 full.1 (subst (λ (p : Progress). progress_there (counts_of c.args.places.now) p ≡ true) was (c.requires.sound.there c.args.client.0)))
+    (asked-low (counts_of c.args.places.now) c.requires.sound.sized (client_of c.index_mut-state.result.now) (progress_of c.index_mut-state.result.now) full.0 full.1 (subst (λ (p : Progress). ProgressThere (counts_of c.args.places.now) p) was (c.requires.sound.there c.args.client.0)))
     c.requires.sound.counted
     (full-log (reverse c.args.order.now.items) (held c.args.places.now) (progress_in c.args.clients.now.items) (progress_of c.index_mut-state.result.now) c.args.client.0 full.0 was c.requires.sound.counted full.3))
 
@@ -108,7 +108,7 @@ pub turn_client-requires-clause-there : goal.turn_client-requires-clause-there
 turn_client-requires-clause-there c =
     let at = rw c.deref.ensures.value at (sym c.in-Some.ensures) in
     let was = was-progress c.args.clients.now.items c.in-Some.at c.index_mut-state.result.now c.args.client at c.index_mut-state.ensures.value in
-    subst (λ (p : Progress). progress_there (counts_of c.args.places.now) p ≡ true) was (c.requires.sound.there c.args.client.0)
+    subst (λ (p : Progress). ProgressThere (counts_of c.args.places.now) p) was (c.requires.sound.there c.args.client.0)
 
 pub returns-clause-sound : goal.returns-clause-sound
 returns-clause-sound c =
@@ -120,7 +120,7 @@ returns-clause-sound c =
     let counts = counts_of c.args.places.now in
     let same = sym c.turn_client.ensures.counts in
     let was = was-progress all c.in-Some.at old c.args.client at is in
-    let now = subst (λ (p : Progress). progress_there counts p ≡ true) was (c.requires.sound.there c.args.client.0) in
+    let now = subst (λ (p : Progress). ProgressThere counts p) was (c.requires.sound.there c.args.client.0) in
     record {
       service = c.turn_client.ensures.service;
       counted = elim (decided c.turn_client.result) [
@@ -133,9 +133,14 @@ returns-clause-sound c =
       ];
       sized = subst AreCounts same c.requires.sound.sized;
       alike = subst (λ (k : Counts). list_all (works_with k) (set all c.in-Some.at new) ≡ true) same (alike-set counts all c.in-Some.at new c.requires.sound.alike c.turn_client.ensures.alike);
-      there = λ n. subst (λ (k : Counts). progress_there k (progress_in (set all c.in-Some.at new) n) ≡ true) same
+      there = λ n. subst (λ (k : Counts). ProgressThere k (progress_in (set all c.in-Some.at new) n)) same
           (there-set counts all c.in-Some.at old new c.args.client at is c.turn_client.ensures.client c.requires.sound.there c.turn_client.ensures.there n);
       asked = subst (λ (k : Counts). places_there k c.turn_client.new.order.items ≡ true) same (c.turn_client.ensures.asked c.requires.sound.asked);
+      named = subst (λ (k : Counts). RowsThere k (held c.turn_client.new.places).shard) same (elim (decided c.turn_client.result) [
+        | inl e ↦ stepped-named counts (client_of old) (progress_of old) (progress_of new) (held c.args.places.now) (held c.turn_client.new.places) (reverse c.args.order.now.items) (reverse c.turn_client.new.order.items)
+            (c.turn_client.ensures.stepped e) c.requires.sound.free now c.requires.sound.named
+        | inr n ↦ subst (λ (h : Held). RowsThere counts h.shard) (sym (c.turn_client.ensures.same_held n)) c.requires.sound.named
+      ]);
       free = elim (decided c.turn_client.result) [
         | inl e ↦ subst (λ (w : World). Unlocked w.shard) (sym (returns-clause-stepped c e)) (turn-unlocked counts (world_in c.args.places.now all c.args.order.now.items) c.args.client.0 c.requires.sound.free)
         | inr n ↦ subst (λ (h : Held). Unlocked h.shard) (sym (c.turn_client.ensures.same_held n)) c.requires.sound.free

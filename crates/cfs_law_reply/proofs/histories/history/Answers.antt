@@ -15,6 +15,6 @@ carried (Err e) x P is p = _
 
 pub returns-clause-judged : goal.returns-clause-judged
 returns-clause-judged c = carried c.items_of.result (history_of (reverse c.args.run.now.entries) c.args.run.now.calls.items)
-    (λ items. (setup : Setup) → IsSetup setup → (turns members : List ℕ) → IsRising members → HasCallers setup.calls members → IsRunOf members (played setup turns) c.args.run.now → IsJudged members (played setup turns) items)
+    (λ items. (setup : Setup) → IsSetup setup → (turns members : List ℕ) → IsRising members → HasCallers setup.plans members → IsRunOf members (played setup turns) c.args.run.now → IsJudged members (played setup turns) items)
     c.items_of.ensures
     (λ setup good turns members rising callers of_world. of-run setup good turns members rising callers c.args.run.now of_world)

@@ -1,4 +1,4 @@
-use Rattle.std.proofs.Common.{◌≡◌, ◌≤◌, ℕ, List, ◌+◌, ap, sym, ◌∙◌, arith, get_or, ◌<◌, length, map, take, drop, Ok, subst}
+use Rattle.std.proofs.Common.{◌≤◌, ℕ, List, ◌+◌, ap, sym, ◌∙◌, arith, get_or, ◌<◌, length, map, take, drop, Ok, subst}
 use Rattle.std.specs.Prelude.{IsTrue, replicate}
 use Rattle.std.proofs.lemmas.List.{take_all}
 use Rattle.cfs_ids.specs.declared.ids.Actor.{Actor}
@@ -10,7 +10,7 @@ use Rattle.cfs_core.specs.Cores.{counts_of, world_of, members_of}
 use Rattle.cfs_law_tree.proofs.Rows.{count_in-more, count_in-take, count_in-with, full-within, run-more-rows, stops-within, turns_in-at}
 use Rattle.cfs_core.proofs.Commands.{true-at}
 use Rattle.cfs_law_tree.specs.Drives.{are_turns_of, is_turn_of, StopsFull, StopsIn}
-use Rattle.cfs_law_tree.proofs.Runs.{counts-at, attributes-at, same-place}
+use Rattle.cfs_law_tree.proofs.Runs.{counts-at, attributes-at}
 use Rattle.cfs_law_tree.proofs.turns.drive.Goals as goal
 
 abbrev none : Actor × ℕ

@@ -1,4 +1,4 @@
-use Rattle.std.proofs.Common.{◌≡◌, ap, sym, ◌∙◌, arith, get_or, ◌<◌, length, Ok, inl, inr, subst}
+use Rattle.std.proofs.Common.{◌≡◌, ap, sym, ◌∙◌, arith, Ok, inl, inr, subst}
 use Rattle.cfs_rules.specs.Worlds.{turn}
 use Rattle.cfs_core.specs.Clients.{number_in}
 use Rattle.cfs_core.specs.declared.turned.Turned.TheVariants.{Idle, Stepped}

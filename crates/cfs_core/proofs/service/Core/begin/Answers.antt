@@ -8,8 +8,9 @@ use Rattle.cfs_view.specs.Held.{Held}
 use Rattle.cfs_view.specs.Views.{held, counts_of}
 use Rattle.cfs_core.specs.Clients.{progress_in, works_with}
 use Rattle.cfs_core.specs.Counted.{IsCounted}
-use Rattle.cfs_core.specs.Reach.{progress_there, places_there}
+use Rattle.cfs_core.specs.Reach.{ProgressThere, RowsThere, places_there}
 use Rattle.cfs_core.specs.Weave.{world_from}
+use Rattle.cfs_core.proofs.Named.{opening-named}
 use Rattle.cfs_core.proofs.Opened.{opens-counted, opens-world, opens-there}
 use Rattle.cfs_core.proofs.Shown.{members_of-started}
 use Rattle.cfs_core.proofs.service.Core.begin.Goals as goal
@@ -25,8 +26,9 @@ invariant_of-result c =
             (opens-counted c.in_ok-clients.clients.items c.args.script.now.commands (held c.in_ok-new.field-0) c.in_ok-new.ensures.held starts);
         sized = subst AreCounts counts c.requires.counts;
         alike = subst (λ (k : Counts). list_all (works_with k) c.in_ok-clients.clients.items ≡ true) counts c.in_ok-clients.ensures.alike;
-        there = λ n. subst (λ (k : Counts). progress_there k (progress_in c.in_ok-clients.clients.items n) ≡ true) counts (opens-there (record { shards = c.args.script.now.shards; stores = c.args.script.now.stores }) c.requires.counts c.in_ok-clients.clients.items c.args.script.now.commands starts n);
+        there = λ n. subst (λ (k : Counts). ProgressThere k (progress_in c.in_ok-clients.clients.items n)) counts (opens-there c.args.script.now c.requires.counts c.requires.built c.in_ok-clients.clients.items starts n);
         asked = subst (λ (o : List PlaceNo). places_there (counts_of c.in_ok-new.field-0) o ≡ true) (sym c.new-2.ensures.items) refl;
+        named = subst (λ (h : Held). RowsThere (counts_of c.in_ok-new.field-0) h.shard) (sym c.in_ok-new.ensures.held) (opening-named (counts_of c.in_ok-new.field-0));
         free = subst (λ (h : Held). Unlocked h.shard) (sym c.in_ok-new.ensures.held) opening-unlocked;
       };
     }

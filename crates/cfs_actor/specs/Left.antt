@@ -1,0 +1,21 @@
+-- What a client has left to do: its walk, and the commands that wait.
+use Rattle.std.specs.Prelude.{ℕ, List, [], ◌∷◌, Bool, true, false, Option, Some, None, is_none}
+use Rattle.cfs_rules.specs.Worlds.{Plan}
+use Rattle.cfs_walk.specs.declared.command.Command.{Command}
+use Rattle.cfs_walk.specs.declared.walk.Walk.{Walk}
+use Rattle.cfs_walk.specs.Walks.{reply_in}
+use Rattle.cfs_walk.specs.Stages.{course_in}
+use Rattle.cfs_actor.specs.Plans.{followed_by, plan_of}
+
+abbrev pub plan_left : (tries : ℕ) → Option Walk → List Command → Plan
+plan_left tries None commands = plan_of tries commands
+plan_left tries (Some walk) commands = followed_by (course_in walk) (plan_of tries commands)
+
+-- the walk has made a call that has no reply yet
+abbrev pub is_asking : Option Walk → Bool
+is_asking None = false
+is_asking (Some walk) = is_none (reply_in (course_in walk))
+
+abbrev pub no_commands : List Command → Bool
+no_commands [] = true
+no_commands (command ∷ commands) = false
