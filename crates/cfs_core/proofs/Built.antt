@@ -17,7 +17,7 @@ use Rattle.cfs_script.specs.Outcomes.{are_built}
 use Rattle.cfs_actor.specs.Plans.{HasSteps, plan_of}
 use Rattle.cfs_actor.proofs.Keeping.{Keeps, followed-keeps, one_call-keeps, listing-keeps}
 use Rattle.cfs_actor.proofs.Steps.{keeps-steps}
-use Rattle.cfs_core.specs.Opening.{plans_in, setup_of}
+use Rattle.cfs_core.specs.Opening.{plans_in, setup_of, tries}
 use Rattle.cfs_core.proofs.Truths.{and_left, and_right, both}
 
 formed : (command : Command) → IsTrue (is_built command) → IsTrue (is_in_form command)
@@ -60,7 +60,7 @@ pub plans-keep : (lists : List (Client × List Command)) → IsTrue (list_all ar
 plans-keep [] built c = tt
 plans-keep (list ∷ lists) built c = by_test (list.0.0 == c) (plans-keep lists (and_right (are_built list) _ built) c)
   where
-    by_test : (b : Bool) → KeepsTo (0 ∷ []) (plans_in lists c) → KeepsTo (0 ∷ []) (if b then plan_of 1 list.1 else plans_in lists c)
+    by_test : (b : Bool) → KeepsTo (0 ∷ []) (plans_in lists c) → KeepsTo (0 ∷ []) (if b then plan_of tries list.1 else plans_in lists c)
     by_test true later = plan-keeps 1 list.1 (and_left (are_built list) _ built) (0 ∷ []) refl
     by_test false later = later
 

@@ -10,7 +10,7 @@ use Rattle.cfs_actor.specs.Clients.{client_of, progress_of}
 use Rattle.cfs_actor.specs.Plans.{plan_of}
 use Rattle.cfs_core.specs.Clients.{progress_in, members_of}
 use Rattle.cfs_core.specs.Ends.{calls_of_states}
-use Rattle.cfs_core.specs.Opening.{shown, started, plans_in, members_in, StartsAs}
+use Rattle.cfs_core.specs.Opening.{shown, started, plans_in, members_in, StartsAs, tries}
 
 -- a state that shows the same in the place of another
 pub shown-set : (states : List ClientState) (i : ℕ) (new d : ClientState) → client_of new ≡ client_of (get_or states i d) → progress_of new ≡ progress_of (get_or states i d) → map shown (set states i new) ≡ map shown states
@@ -66,12 +66,12 @@ started_at (s ∷ states) (l ∷ lists) c e =
     let rest : map shown states ≡ map started lists = cc in
     let pair : shown s ≡ started l = cc in
     let who : client_of s ≡ l.0 = ap (λ (e : Client × Progress). e.0) pair in
-    let what : progress_of s ≡ starts (plan_of 1 l.1) = ap (λ (e : Client × Progress). e.1) pair in
+    let what : progress_of s ≡ starts (plan_of tries l.1) = ap (λ (e : Client × Progress). e.1) pair in
     ap (λ (k : Client). if k.0 == c then progress_of s else progress_in states c) who
     ∙ by_test (l.0.0 == c) what (started_at states lists c rest)
   where
-    by_test : (b : Bool) → progress_of s ≡ starts (plan_of 1 l.1) → progress_in states c ≡ starts (plans_in lists c)
-        → (if b then progress_of s else progress_in states c) ≡ starts (if b then plan_of 1 l.1 else plans_in lists c)
+    by_test : (b : Bool) → progress_of s ≡ starts (plan_of tries l.1) → progress_in states c ≡ starts (plans_in lists c)
+        → (if b then progress_of s else progress_in states c) ≡ starts (if b then plan_of tries l.1 else plans_in lists c)
     by_test true what rest = what
     by_test false what rest = rest
 

@@ -7,12 +7,15 @@ ghost use Rattle.cfs_script.specs.Outcomes.{are_built};
 ghost use Rattle.cfs_actor.specs.Clients.{client_of, counts_of, progress_of};
 ghost use Rattle.cfs_actor.specs.Plans.{plan_of};
 ghost use Rattle.cfs_core.specs.Clients.{works_with};
-ghost use Rattle.cfs_core.specs.Opening.{StartsAs};
+ghost use Rattle.cfs_core.specs.Opening.{StartsAs, tries};
 
 use cfs_actor::{ClientState, CommandQueue};
 use cfs_ids::{Client, NoMemory};
 use cfs_script::{Command, CommandList};
 use std::alloc::Global;
+
+/// How often a call that is answered Busy is made in all.
+pub const TRIES: u32 = 1;
 
 // These commands, in order.
 fn queue_of(alloc: Global, commands: &[Command]) -> Result<CommandQueue, NoMemory>
@@ -25,7 +28,7 @@ fn queue_of(alloc: Global, commands: &[Command]) -> Result<CommandQueue, NoMemor
     Ok(queue)
 }
 
-// A client at its start, which works with so many shards and stores and makes each call once.
+// A client at its start, which works with so many shards and stores.
 fn state_of(
     alloc: Global,
     client: Client,
@@ -36,11 +39,11 @@ fn state_of(
     requires counts { AreCounts (record { shards = shards; stores = stores }) }
     requires built { IsTrue (list_all is_built commands.now) }
     ensures client { IfOk result (λ state. client_of state ≡ client) }
-    ensures progress { IfOk result (λ state. progress_of state ≡ starts (plan_of 1 commands.now)) }
+    ensures progress { IfOk result (λ state. progress_of state ≡ starts (plan_of tries commands.now)) }
     ensures counts { IfOk result (λ state. counts_of state ≡ record { shards = shards; stores = stores }) }
 {
     let queue = queue_of(alloc, commands.as_slice())?;
-    Ok(ClientState::new(alloc, client, queue, 1, shards, stores))
+    Ok(ClientState::new(alloc, client, queue, TRIES, shards, stores))
 }
 
 /// The clients of these lists at their start.

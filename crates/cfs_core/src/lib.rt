@@ -10,6 +10,7 @@ mod service;
 mod turned;
 mod turning;
 
+pub use begin::TRIES;
 pub use run::Run;
 pub use service::Core;
 pub use turned::Turned;

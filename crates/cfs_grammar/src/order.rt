@@ -1,6 +1,7 @@
 //! The words behind `client`.
-ghost use Rattle.std.specs.Prelude.{◌≡◌, ◌<◌, ◌≤◌, IfOk, IsTrue, Err, if◌then◌else◌};
+ghost use Rattle.std.specs.Prelude.{◌≡◌, ◌≢◌, ◌<◌, ◌≤◌, IfOk, IsTrue, Err, None, true, false, if◌then◌else◌};
 ghost use Rattle.cfs_walk.specs.Commands.{is_in_form};
+ghost use Rattle.cfs_grammar.specs.declared.fault.Fault.TheVariants.{BadCommand, BadNumber};
 ghost use Rattle.cfs_grammar.specs.Words.{words, only, pair};
 ghost use Rattle.cfs_grammar.specs.Numbers.{client_of};
 ghost use Rattle.cfs_grammar.specs.Orders.{verb_of, may_be_root, on_path, path_said, truncate_said, rename_said, command_said, ordered, order_said};
@@ -55,7 +56,9 @@ fn read_operand(alloc: Global, verb: PathVerb, text: &[u8]) -> Result<Option<Pat
 }
 
 fn read_one_path(alloc: Global, verb: PathVerb, rest: &[u8]) -> Result<Command, Refusal>
-    ensures { Gives result (path_said verb (only (words rest.now))) }
+    ensures said { Gives result (path_said verb (only (words rest.now))) }
+    ensures bad_command { path_said verb (only (words rest.now)) ≡ Err BadCommand → result ≡ Err (Refusal.Fault BadCommand) }
+    ensures bad_number { path_said verb (only (words rest.now)) ≡ Err BadNumber → result ≡ Err (Refusal.Fault BadNumber) }
 {
     let Some(text) = only_word(rest) else {
         return Err(Refusal::Fault(Fault::BadCommand));
@@ -67,7 +70,9 @@ fn read_one_path(alloc: Global, verb: PathVerb, rest: &[u8]) -> Result<Command, 
 }
 
 fn read_truncate(alloc: Global, rest: &[u8]) -> Result<Command, Refusal>
-    ensures { Gives result (truncate_said (pair (words rest.now))) }
+    ensures said { Gives result (truncate_said (pair (words rest.now))) }
+    ensures bad_command { truncate_said (pair (words rest.now)) ≡ Err BadCommand → result ≡ Err (Refusal.Fault BadCommand) }
+    ensures bad_number { truncate_said (pair (words rest.now)) ≡ Err BadNumber → result ≡ Err (Refusal.Fault BadNumber) }
 {
     let Some((path, size)) = two_words(rest) else {
         return Err(Refusal::Fault(Fault::BadCommand));
@@ -82,7 +87,9 @@ fn read_truncate(alloc: Global, rest: &[u8]) -> Result<Command, Refusal>
 }
 
 fn read_rename(alloc: Global, rest: &[u8]) -> Result<Command, Refusal>
-    ensures { Gives result (rename_said (pair (words rest.now))) }
+    ensures said { Gives result (rename_said (pair (words rest.now))) }
+    ensures bad_command { rename_said (pair (words rest.now)) ≡ Err BadCommand → result ≡ Err (Refusal.Fault BadCommand) }
+    ensures bad_number { rename_said (pair (words rest.now)) ≡ Err BadNumber → result ≡ Err (Refusal.Fault BadNumber) }
 {
     let Some((path, to)) = two_words(rest) else {
         return Err(Refusal::Fault(Fault::BadCommand));
@@ -97,7 +104,9 @@ fn read_rename(alloc: Global, rest: &[u8]) -> Result<Command, Refusal>
 }
 
 fn read_command(alloc: Global, word: &[u8], rest: &[u8]) -> Result<Command, Refusal>
-    ensures { Gives result (command_said (verb_of word.now) (words rest.now)) }
+    ensures said { Gives result (command_said (verb_of word.now) (words rest.now)) }
+    ensures bad_command { command_said (verb_of word.now) (words rest.now) ≡ Err BadCommand → result ≡ Err (Refusal.Fault BadCommand) }
+    ensures bad_number { command_said (verb_of word.now) (words rest.now) ≡ Err BadNumber → result ≡ Err (Refusal.Fault BadNumber) }
 {
     match read_verb(word) {
         Some(Verb::OnPath(verb)) => read_one_path(alloc, verb, rest),
@@ -107,25 +116,37 @@ fn read_command(alloc: Global, word: &[u8], rest: &[u8]) -> Result<Command, Refu
     }
 }
 
-// What is wrong with a number and a command that has this fault.
-fn first_fault(number: &[u8], fault: Fault) -> Fault
-    ensures { ordered (client_of number.now) (Err fault) ≡ Err result }
+// Whether the command has as many words as it takes.
+fn has_its_words(word: &[u8], rest: &[u8]) -> bool
+    ensures missing { result ≡ false → command_said (verb_of word.now) (words rest.now) ≡ Err BadCommand }
+    ensures there { result ≡ true → command_said (verb_of word.now) (words rest.now) ≢ Err BadCommand }
 {
-    match read_client(number) {
-        Some(_) => fault,
-        None => match fault {
-            Fault::BadCommand => Fault::BadCommand,
-            _ => Fault::BadNumber,
-        },
+    match read_verb(word) {
+        Some(Verb::OnPath(_)) => only_word(rest).is_some(),
+        Some(Verb::Truncate | Verb::Rename) => two_words(rest).is_some(),
+        None => false,
+    }
+}
+
+// What is wrong where no client has the number.
+fn nobodys_fault(word: &[u8], rest: &[u8]) -> Fault
+    ensures { ordered None (command_said (verb_of word.now) (words rest.now)) ≡ Err result }
+{
+    if has_its_words(word, rest) {
+        Fault::BadNumber
+    } else {
+        Fault::BadCommand
     }
 }
 
 /// The client and the command of the words behind `client`, or the first of these faults: `BadCommand` where the
-/// command or the number of its words is wrong, `BadNumber` where a number is, `BadPath` where a path is. The command
-/// is in form.
+/// command or the number of its words is wrong, `BadNumber` where a number is, `BadPath` where a path is. The first two
+/// take no memory. The command is in form.
 #[tactic(auto, unfolding(crate::specs::Orders::order_said))]
 pub fn read_order(alloc: Global, text: &[u8]) -> Result<Order, Refusal>
     ensures said { Gives result (order_said (words text.now)) }
+    ensures bad_command { order_said (words text.now) ≡ Err BadCommand → result ≡ Err (Refusal.Fault BadCommand) }
+    ensures bad_number { order_said (words text.now) ≡ Err BadNumber → result ≡ Err (Refusal.Fault BadNumber) }
     ensures in_form { IfOk result (λ order. IsTrue (is_in_form order.command)) }
     ensures low { IfOk result (λ order. 0 < order.client.0) }
     ensures high { IfOk result (λ order. order.client.0 ≤ 32) }
@@ -136,12 +157,9 @@ pub fn read_order(alloc: Global, text: &[u8]) -> Result<Order, Refusal>
     let Some((word, rest)) = cut_word(rest) else {
         return Err(Refusal::Fault(Fault::BadCommand));
     };
-    match read_command(alloc, word, rest) {
-        Ok(command) => match read_client(number) {
-            Some(client) => Ok(Order { client, command }),
-            None => Err(Refusal::Fault(Fault::BadNumber)),
-        },
-        Err(Refusal::Fault(fault)) => Err(Refusal::Fault(first_fault(number, fault))),
-        Err(Refusal::NoMemory) => Err(Refusal::NoMemory),
-    }
+    let Some(client) = read_client(number) else {
+        return Err(Refusal::Fault(nobodys_fault(word, rest)));
+    };
+    let command = read_command(alloc, word, rest)?;
+    Ok(Order { client, command })
 }

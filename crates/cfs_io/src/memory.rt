@@ -1,6 +1,9 @@
 //! Devices in memory that fail at chosen calls, for tests.
-ghost use Rattle.std.specs.Prelude.{◌≡◌, ◌≤◌, ◌<◌, Some, None, [], drop, vec_len, IfOk};
-ghost use Rattle.cfs_io.specs.Causes.{HasCause};
+ghost use Rattle.std.specs.Prelude.{◌≡◌, ◌≤◌, ◌<◌, ◌-◌, ◌↔◌, ◌||◌, ◌==◌, if◌then◌else◌, min, Some, None, [], drop, length, vec_len, vec_capacity, IfOk, IsErr, IsTrue};
+ghost use Rattle.std.specs.Io.{ReadsAtMost};
+ghost use Rattle.std.specs.Io.KnownBytes.{ReadConsumes, WriteAppends};
+ghost use Rattle.cfs_io.specs.Causes.{HasCause, TakesSome};
+ghost use Rattle.cfs_io.specs.Memory.{is_told, one_more};
 
 use crate::pieces::move_piece;
 use crate::traits::{Failed, Sink, Source};
@@ -26,6 +29,9 @@ impl MemSource {
         requires { 0 < piece }
         ensures left { ⟦<MemSource as Source>⟧.left result ≡ Some bytes.items }
         ensures faults { ⟦<MemSource as Source>⟧.faults result ≡ 0 }
+        ensures piece { result.piece ≡ piece }
+        ensures fails { result.fails ≡ fails }
+        ensures calls { result.calls ≡ 0 }
     {
         MemSource {
             bytes,
@@ -43,7 +49,19 @@ impl Source for MemSource {
 
     ghost faults = { λ s. s.faults };
 
-    fn read(&mut self, buf: &mut [u8]) -> Result<usize, Failed> {
+    fn read(&mut self, buf: &mut [u8]) -> Result<usize, Failed>
+        ensures bound { ReadsAtMost result buf.new }
+        ensures bytes { ReadConsumes (⟦<MemSource as Source>⟧.left self.old) (⟦<MemSource as Source>⟧.left self.new) result buf.new }
+        ensures cause { HasCause self.old.faults self.new.faults result }
+
+        // It fails at the calls that it was told, and at no other.
+        ensures fails { IsErr result ↔ IsTrue (is_told self.old.fails.items self.new.calls) }
+        ensures faults { self.new.faults ≡ (if is_told self.old.fails.items self.new.calls then one_more self.old.faults else self.old.faults) }
+        ensures count { IfOk result (λ count. count ≡ min (min self.old.piece (length buf.old)) (vec_len self.old.bytes - self.old.at)) }
+        ensures calls { self.new.calls ≡ one_more self.old.calls }
+        ensures same_fails { self.new.fails ≡ self.old.fails }
+        ensures same_piece { self.new.piece ≡ self.old.piece }
+    {
         self.calls = self.calls.saturating_add(1);
         if self.fails.contains(&self.calls) {
             self.faults = self.faults.saturating_add(1);
@@ -66,6 +84,7 @@ pub struct MemSink {
     calls: u64,
     faults: u64,
     ghost within: { vec_len bytes ≤ room },
+    ghost holds: { room ≤ vec_capacity bytes },
     ghost takes: { 0 < piece },
 }
 
@@ -80,6 +99,10 @@ impl MemSink {
         requires { 0 < piece }
         ensures taken { IfOk result (λ sink. ⟦<MemSink as Sink>⟧.taken sink ≡ Some []) }
         ensures faults { IfOk result (λ sink. ⟦<MemSink as Sink>⟧.faults sink ≡ 0) }
+        ensures room { IfOk result (λ sink. sink.room ≡ room) }
+        ensures piece { IfOk result (λ sink. sink.piece ≡ piece) }
+        ensures fails { IfOk result (λ sink. sink.fails ≡ fails) }
+        ensures calls { IfOk result (λ sink. sink.calls ≡ 0) }
     {
         let Ok(bytes) = Vec::with_capacity(alloc, room) else {
             return Err(NoMemory);
@@ -92,6 +115,13 @@ impl MemSink {
             calls: 0,
             faults: 0,
         })
+    }
+
+    // Whether the call under way is to fail.
+    fn fails_now(&self) -> bool
+        ensures { result ≡ (is_told self.now.fails.items self.now.calls || (vec_len self.now.bytes == self.now.room)) }
+    {
+        self.fails.contains(&self.calls) || self.bytes.len() == self.room
     }
 
     /// What the sink has taken.
@@ -107,19 +137,35 @@ impl Sink for MemSink {
 
     ghost faults = { λ s. s.faults };
 
-    fn write(&mut self, bytes: &[u8]) -> Result<usize, Failed> {
+    fn write(&mut self, bytes: &[u8]) -> Result<usize, Failed>
+        requires { 0 < length bytes.now }
+        ensures some { TakesSome result bytes.now }
+        ensures bytes { WriteAppends (⟦<MemSink as Sink>⟧.taken self.old) (⟦<MemSink as Sink>⟧.taken self.new) result bytes.now }
+        ensures cause { HasCause self.old.faults self.new.faults result }
+
+        // It fails at the calls that it was told, and where it is full, and at no other.
+        ensures fails { IsErr result ↔ IsTrue (is_told self.old.fails.items self.new.calls || (vec_len self.old.bytes == self.old.room)) }
+        ensures faults { self.new.faults ≡ (if is_told self.old.fails.items self.new.calls || (vec_len self.old.bytes == self.old.room) then one_more self.old.faults else self.old.faults) }
+        ensures count { IfOk result (λ count. count ≡ min (min self.old.piece (length bytes.now)) (self.old.room - vec_len self.old.bytes)) }
+        ensures calls { self.new.calls ≡ one_more self.old.calls }
+        ensures same_fails { self.new.fails ≡ self.old.fails }
+        ensures same_piece { self.new.piece ≡ self.old.piece }
+        ensures same_room { self.new.room ≡ self.old.room }
+    {
         self.calls = self.calls.saturating_add(1);
-        let count = self
-            .piece
-            .min(bytes.len())
-            .min(self.room - self.bytes.len());
-        if count == 0
-            || self.fails.contains(&self.calls)
-            || self.bytes.extend_from_slice(&bytes[..count]).is_err()
-        {
+        if self.fails_now() {
             self.faults = self.faults.saturating_add(1);
             return Err(Failed);
         }
-        Ok(count)
+        let room = self.room - self.bytes.len();
+        let count = self.piece.min(bytes.len()).min(room);
+        match self.bytes.extend_from_slice(&bytes[..count]) {
+            Ok(()) => Ok(count),
+            // It doesn't come: the buffer was made with all its room.
+            Err(_) => {
+                self.faults = self.faults.saturating_add(1);
+                Err(Failed)
+            }
+        }
     }
 }

@@ -1,5 +1,5 @@
 //! The bytes that move at one read.
-ghost use Rattle.std.specs.Prelude.{◌≡◌, ◌≤◌, ◌<◌, [], take, length};
+ghost use Rattle.std.specs.Prelude.{◌≡◌, ◌≤◌, ◌<◌, [], take, length, min};
 
 /// The most bytes that are asked of a source at one read.
 pub const PIECE: usize = 4096;
@@ -7,6 +7,7 @@ pub const PIECE: usize = 4096;
 // Copies a first piece of `left` to the front of `buf`, and says how long it is.
 pub fn move_piece(left: &[u8], piece: usize, buf: &mut [u8]) -> usize
     requires { 0 < piece }
+    ensures count { result ≡ min (min piece (length buf.old)) (length left.now) }
     ensures fits { result ≤ length left.now }
     ensures bound { result ≤ length buf.new }
     ensures front { take result buf.new ≡ take result left.now }

@@ -1,5 +1,5 @@
 //! A set of nodes.
-ghost use Rattle.std.specs.Prelude.{◌≡◌, ◌==◌, OnOk, ◌||◌, false, is_some};
+ghost use Rattle.std.specs.Prelude.{◌≡◌, ◌==◌, OnOk, OnErr, ◌||◌, false, is_some};
 ghost use Rattle.std.specs.FinMap as map;
 ghost use Rattle.cfs_ids.specs.Namespace.{is_node};
 
@@ -16,7 +16,8 @@ pub struct NodeSet {
 
 // Sets the number in the map.
 fn enter(numbers: &mut NumberMap<()>, number: u64) -> Result<(), NoMemory>
-    ensures { OnOk result ((k : _) → is_some (map.get numbers.new k) ≡ (is_some (map.get numbers.old k) || number == k)) }
+    ensures ok { OnOk result ((k : _) → is_some (map.get numbers.new k) ≡ (is_some (map.get numbers.old k) || number == k)) }
+    ensures err { OnErr result (numbers.new ≡ numbers.old) }
 {
     match numbers.set(number, ()) {
         Ok(_) => Ok(()),
@@ -39,7 +40,8 @@ impl NodeSet {
 
     /// Adds the node. The Err is want of memory.
     pub fn add(&mut self, node: Node) -> Result<(), NoMemory>
-        ensures { OnOk result ((x : _) → has_node self.new x ≡ (has_node self.old x || is_node x node)) }
+        ensures ok { OnOk result ((x : _) → has_node self.new x ≡ (has_node self.old x || is_node x node)) }
+        ensures err { OnErr result (self.new ≡ self.old) }
     {
         match node {
             Node::File(file) => enter(&mut self.files, file.0),

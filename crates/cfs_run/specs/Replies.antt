@@ -8,6 +8,7 @@ use Rattle.cfs_steps.specs.declared.call_done.ClientCalls.{ClientCalls}
 use Rattle.cfs_walk.specs.declared.command.Command.{Command}
 use Rattle.cfs_walk.specs.Commands.{is_in_form}
 use Rattle.cfs_walk.specs.Walks.{course_of, followed}
+use Rattle.cfs_core.specs.Opening.{tries}
 use Rattle.cfs_print.specs.declared.commands.CommandReply.{CommandReply}
 
 abbrev pub replies_in : List CallDone → List Reply
@@ -29,10 +30,10 @@ abbrev pub told_as : Client → (number : ℕ) → (stepped : Bool) → Option R
 told_as client number stepped (Some reply, left) later = record { client = client; number = number; reply = Some reply } ∷ later left
 told_as client number stepped (None, left) later = open_line client number stepped
 
--- the commands of a client, from this number on, by the replies to its calls; each call is made once
+-- the commands of a client, from this number on, by the replies to its calls
 abbrev pub told_from : Client → (number : ℕ) → List Command → List Reply → (begun : Bool) → List CommandReply
 told_from client number [] replies begun = []
-told_from client number (command ∷ commands) replies begun = told_as client number (has_stepped replies begun) (followed (course_of 1 command) replies) (λ left. told_from client (number + 1) commands left begun)
+told_from client number (command ∷ commands) replies begun = told_as client number (has_stepped replies begun) (followed (course_of tries command) replies) (λ left. told_from client (number + 1) commands left begun)
 
 abbrev pub replies_of_client : Client × List Command → ClientCalls → List CommandReply
 replies_of_client list calls = told_from list.0 1 list.1 (replies_in calls.done) (is_some calls.begun)

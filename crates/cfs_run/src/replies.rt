@@ -5,8 +5,10 @@ ghost use Rattle.std.specs.Option.{option_copied};
 ghost use Rattle.cfs_walk.specs.Commands.{is_in_form};
 ghost use Rattle.cfs_walk.specs.Stages.{course_in};
 ghost use Rattle.cfs_walk.specs.Walks.{course_of, followed, reply_in};
+ghost use Rattle.cfs_core.specs.Opening.{tries};
 ghost use Rattle.cfs_run.specs.Replies.{replies_in, has_stepped, open_line, replies_of_client, replies_of, are_in_form};
 
+use cfs_core::TRIES;
 use cfs_ids::{Client, NoMemory, Reply};
 use cfs_print::{CommandReply, ReplyTable};
 use cfs_script::CommandList;
@@ -55,10 +57,10 @@ fn told(
 ) -> Result<(Option<Reply>, usize), NoMemory>
     requires form { IsTrue (is_in_form command.now) }
     requires within { first ≤ length calls.now }
-    ensures followed { IfOk result (λ told. (told.0, replies_in (drop told.1 calls.now)) ≡ followed (course_of 1 command.now) (replies_in (drop first calls.now))) }
+    ensures followed { IfOk result (λ told. (told.0, replies_in (drop told.1 calls.now)) ≡ followed (course_of tries command.now) (replies_in (drop first calls.now))) }
     ensures within { IfOk result (λ told. told.1 ≤ length calls.now) }
 {
-    let mut walk = Walk::start(alloc, command, 1)?;
+    let mut walk = Walk::start(alloc, command, TRIES)?;
     let end = follow(&mut walk, calls, first)?;
     Ok((copy_of(walk.reply())?, end))
 }

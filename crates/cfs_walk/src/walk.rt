@@ -1,5 +1,5 @@
 //! The walk of a command: which calls it makes, and what it is answered.
-ghost use Rattle.std.specs.Prelude.{◌≡◌, ◌≤◌, ◌↔◌, None, IfOk, OnOk, OnErr, IsOk, IsSome, IsTrue, false};
+ghost use Rattle.std.specs.Prelude.{◌≡◌, ◌≤◌, ◌↔◌, [], None, IfOk, OnOk, OnErr, IsOk, IsSome, IsTrue, false};
 ghost use Rattle.std.specs.Option.{option_copied};
 ghost use Rattle.cfs_walk.specs.Commands.{is_in_form};
 ghost use Rattle.cfs_walk.specs.Paths.{is_filled};
@@ -38,7 +38,8 @@ fn from_root(alloc: Global, path: &Path, aim: Aim, more: u32) -> Result<Stage, N
 fn list_stage(alloc: Global, path: &Path, more: u32) -> Result<Stage, NoMemory>
     requires filled { IsTrue (is_filled path.now) }
     requires short { is_too_long path.now ≡ false }
-    ensures { IfOk result (λ stage. from_stage more stage ≡ listing more path.now) }
+    ensures stage { IfOk result (λ stage. from_stage more stage ≡ listing more path.now) }
+    ensures of_root { path.now ≡ [] → IsOk result }
 {
     if path.len() == 0 {
         Ok(Stage::last(more, Call::List { dir: ROOT }))
@@ -51,7 +52,8 @@ fn list_stage(alloc: Global, path: &Path, more: u32) -> Result<Stage, NoMemory>
 fn stat_stage(alloc: Global, path: &Path, more: u32) -> Result<Stage, NoMemory>
     requires filled { IsTrue (is_filled path.now) }
     requires short { is_too_long path.now ≡ false }
-    ensures { IfOk result (λ stage. from_stage more stage ≡ stating more path.now) }
+    ensures stage { IfOk result (λ stage. from_stage more stage ≡ stating more path.now) }
+    ensures of_root { path.now ≡ [] → IsOk result }
 {
     if path.len() == 0 {
         Ok(Stage::last(more, Call::StatRoot))
@@ -64,7 +66,9 @@ fn stat_stage(alloc: Global, path: &Path, more: u32) -> Result<Stage, NoMemory>
 fn first_stage(alloc: Global, command: &Command, more: u32) -> Result<Stage, NoMemory>
     requires form { IsTrue (is_in_form command.now) }
     requires short { has_too_long command.now ≡ false }
-    ensures { IfOk result (λ stage. from_stage more stage ≡ calls_of more command.now) }
+    ensures stage { IfOk result (λ stage. from_stage more stage ≡ calls_of more command.now) }
+    ensures list_of_root { command.now ≡ Command.List [] → IsOk result }
+    ensures stat_of_root { command.now ≡ Command.Stat [] → IsOk result }
 {
     match command {
         Command::Lookup(path) => from_root(alloc, path, Aim::Call(NameCall::Lookup), more),
@@ -89,7 +93,12 @@ impl Walk {
     pub fn start(alloc: Global, command: &Command, tries: u32) -> Result<Walk, NoMemory>
         requires form { IsTrue (is_in_form command.now) }
         requires tries { 1 ≤ tries }
-        ensures { IfOk result (λ walk. course_in walk ≡ course_of tries command.now) }
+        ensures course { IfOk result (λ walk. course_in walk ≡ course_of tries command.now) }
+
+        // A name that is too long, the root's list and the root's stat take no memory.
+        ensures too_long { IsTrue (has_too_long command.now) → IsOk result }
+        ensures list_of_root { command.now ≡ Command.List [] → IsOk result }
+        ensures stat_of_root { command.now ≡ Command.Stat [] → IsOk result }
     {
         let more = tries - 1;
         if command.has_too_long() {
@@ -100,9 +109,10 @@ impl Walk {
         Ok(Walk { more, stage })
     }
 
-    /// The call that the command makes next. None comes exactly where it has its reply.
+    /// The call that the command makes next. None comes exactly where it has its reply, and takes no memory.
     pub fn next_call(&self) -> Result<Option<Call>, NoMemory>
-        ensures { IfOk result (λ call. call ≡ call_in (course_in self.now)) }
+        ensures call { IfOk result (λ call. call ≡ call_in (course_in self.now)) }
+        ensures sure { call_in (course_in self.now) ≡ None → IsOk result }
     {
         match &self.stage {
             Stage::Makes { call, .. } => Ok(Some(call.copy()?)),

@@ -3,6 +3,6 @@ use Rattle.cfs_grammar.specs.Words.{words}
 use Rattle.cfs_grammar.proofs.InForm.{command_said-in_form}
 use Rattle.cfs_grammar.proofs.order.read_order.Goals as goal
 
-pub returns-in-Some-read_client-clause-in_form : goal.returns-in-Some-read_client-clause-in_form
-returns-in-Some-read_client-clause-in_form c =
-    command_said-in_form (verb_of c.in-Some-cut_word.word.now) (words c.in-Some-cut_word.rest.now) c.in-Ok.command c.in-Ok.ensures
+pub returns-clause-in_form : goal.returns-clause-in_form
+returns-clause-in_form c =
+    command_said-in_form (verb_of c.in-Some-cut_word.word.now) (words c.in-Some-cut_word.rest.now) c.in_ok-command.command c.in_ok-command.ensures.said
