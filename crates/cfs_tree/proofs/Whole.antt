@@ -46,13 +46,13 @@ empty_root-whole = record {
   root = (record { names = empty; time = 0 }, get-insert_here empty 0 (record { names = empty; time = 0 }));
   there = λ d name node is. absurd (let none = root-names d name in cc);
   unnamed = λ d name dir is. absurd (let none = root-names d name in cc);
-  once = λ d e name other dir is it. absurd (let none = root-names d name in cc);
+  once = λ d e name other node is it. absurd (let none = root-names d name in cc);
   below = λ d it is. below-reached empty_root 0 d (0, sym (root-alone d it is));
 }
 
 -- ---- a call that moves
 pub whole-after : (n : Namespace) (call : Call) (made : Option Node) (ts : ℕ) → IsDefined n call made → IsWhole n → IsWhole (after n call made ts)
-whole-after n (Create dir name) (Some (File file)) ts h whole = let it = free-there (get n.dirs dir.0) name h.0 in whole-created n dir name file ts it.0 it.1 whole
+whole-after n (Create dir name) (Some (File file)) ts h whole = let it = free-there (get n.dirs dir.0) name h.0 in whole-created n dir name file ts it.0 it.1 h.1 whole
 whole-after n (Mkdir dir name) (Some (Dir child)) ts h whole = let it = free-there (get n.dirs dir.0) name h.0 in whole-made_dir n dir name child ts it.0 it.1 h.1 whole
 whole-after n (Unlink dir name) None ts h whole = let it = a-file (node_at (get n.dirs dir.0) name) h in whole-unlinked n dir name ts it.0 it.1 whole
 whole-after n (Rmdir dir name) None ts h whole = let it = an-empty n (node_at (get n.dirs dir.0) name) h in whole-removed n dir name ts it.0 it.1 it.2 whole

@@ -111,12 +111,17 @@ file-there-insert files f facts g h = by_test (g == f) refl
     by_test true at = let same : g ≡ f = grind (arith, nat_tests) in (facts, ap (get (insert files f facts)) same ∙ get-insert_here files f facts)
     by_test false at = let apart : g ≢ f = grind (arith, nat_tests) in (h.0, get-insert_apart files f g facts apart ∙ h.1)
 
-pub whole-created : (n : Namespace) (dir : DirId) (name : List ℕ) (file : FileId) (ts : ℕ) → IsDirThere n.dirs dir.0 → node_at (get n.dirs dir.0) name ≡ None → IsWhole n → IsWhole (created n dir name file ts)
-whole-created n dir name file ts it none whole = whole-rearranged n (created n dir name file ts) dir.0 name dir.0 name (Some (File file)) (set-rearranges n.dirs dir name (File file) ts) may whole
+pub whole-created : (n : Namespace) (dir : DirId) (name : List ℕ) (file : FileId) (ts : ℕ) → IsDirThere n.dirs dir.0 → node_at (get n.dirs dir.0) name ≡ None → get n.files file.0 ≡ None → IsWhole n → IsWhole (created n dir name file ts)
+whole-created n dir name file ts it none new whole = whole-rearranged n (created n dir name file ts) dir.0 name dir.0 name (Some (File file)) (set-rearranges n.dirs dir name (File file) ts) may whole
   where
     new_file : (node : Node) → ◌≡◌ {A = Option Node} (Some (File file)) (Some node) → IsThere (created n dir name file ts) node
     new_file (File f) is = let same : file ≡ f = cc in subst (λ (x : FileId). IsThere (created n dir name file ts) (File x)) same (record { size = 0; time = ts }, get-insert_here n.files file.0 (record { size = 0; time = ts }))
     new_file (Dir d) is = cc
+
+    -- each node that a list names is there, and the new file isn't
+    nowhere : (node : Node) → ◌≡◌ {A = Option Node} (Some (File file)) (Some node) → IsThere n node → ⊥
+    nowhere (File f) is h = let same : file ≡ f = cc in let there = h.1 in let absent : get n.files f.0 ≡ None = subst (λ (x : FileId). get n.files x.0 ≡ None) same new in cc
+    nowhere (Dir d) is h = cc
 
     may : Allows n (created n dir name file ts) dir.0 name dir.0 name (Some (File file))
     may = record {
@@ -126,7 +131,7 @@ whole-created n dir name file ts it none whole = whole-rearranged n (created n d
       files = λ f h. file-there-insert n.files file.0 _ f.0 h;
       node_there = new_file;
       not_root = λ d is. cc;
-      alone = λ d is e other found. cc;
+      alone = λ node is e other found. absurd (nowhere node is (whole.there e other node found));
       empty = λ d is other. cc;
       moves = λ d apart is. absurd (apart (refl, refl));
     }
@@ -170,6 +175,10 @@ whole-made_dir n dir name child ts it none new whole = whole-rearranged n (made_
     is_child : (d : DirId) → ◌≡◌ {A = Option Node} (Some (Dir child)) (Some (Dir d)) → get n.dirs d.0 ≡ None
     is_child d is = let here : child ≡ d = cc in subst (λ (x : DirId). get n.dirs x.0 ≡ None) here new
 
+    nowhere : (node : Node) → ◌≡◌ {A = Option Node} (Some (Dir child)) (Some node) → IsThere n node → ⊥
+    nowhere (Dir d) is h = let absent = is_child d is in let there = h.1 in cc
+    nowhere (File f) is h = cc
+
     may : Allows n (made_dir n dir name child ts) dir.0 name dir.0 name (Some (Dir child))
     may = record {
       to_there = it;
@@ -178,7 +187,7 @@ whole-made_dir n dir name child ts it none new whole = whole-rearranged n (made_
       files = λ f h. h;
       node_there = new_dir;
       not_root = λ d is zero_is. let absent = is_child d is in let there = whole.root.1 in let root : get n.dirs 0 ≡ None = ap (get n.dirs) (sym zero_is) ∙ absent in cc;
-      alone = λ d is e other found. absurd (let absent = is_child d is in let there = (whole.there e other (Dir d) found).1 in cc);
+      alone = λ node is e other found. absurd (nowhere node is (whole.there e other node found));
       empty = λ d is other. cc;
       moves = λ d slot is. absurd (slot (refl, refl));
     }
@@ -200,7 +209,7 @@ whole-unlinked n dir name ts file is whole = whole-rearranged n (unlinked_in n d
       files = λ f h. h;
       node_there = λ node none. cc;
       not_root = λ d none. cc;
-      alone = λ d none e other found. cc;
+      alone = λ node none e other found. cc;
       empty = λ d replaced other. cc;
       moves = λ d slot replaced. absurd (slot (refl, refl));
     }
@@ -230,7 +239,7 @@ whole-removed n dir name ts child is none whole =
       files = λ f h. h;
       node_there = λ node no. cc;
       not_root = λ d no. cc;
-      alone = λ d no e other found. cc;
+      alone = λ node no e other found. cc;
       empty = gone;
       moves = λ d slot found. absurd (slot (refl, refl));
     }

@@ -108,7 +108,7 @@ module _ (n : Namespace) (dir : DirId) (name : List ℕ) (to_dir : DirId) (to_na
 
   node_there : (it : Node) → Some node ≡ Some it → IsThere (moved_in n dir name to_dir to_name node ts) it
   node_there (File f) same = whole.there dir.0 name (File f) (is ∙ same)
-  node_there (Dir d) same = stay d.0 (whole.there dir.0 name (Dir d) (is ∙ same)) (λ replaced. apart (whole.once dir.0 to_dir.0 name to_name d (is ∙ same) replaced))
+  node_there (Dir d) same = stay d.0 (whole.there dir.0 name (Dir d) (is ∙ same)) (λ replaced. apart (whole.once dir.0 to_dir.0 name to_name (Dir d) (is ∙ same) replaced))
 
   moves : (d : DirId) → ¬ (IsSlot dir.0 name to_dir.0 to_name) → node_at (get n.dirs dir.0) name ≡ Some (Dir d) → (Some node ≡ Some (Dir d)) × ¬ (Reaches n.dirs d.0 to_dir.0)
   moves d slot found = (
@@ -128,7 +128,7 @@ module _ (n : Namespace) (dir : DirId) (name : List ℕ) (to_dir : DirId) (to_na
     files = λ f h. h;
     node_there = node_there;
     not_root = λ d same. whole.unnamed dir.0 name d (is ∙ same);
-    alone = λ d same e other found. whole.once e dir.0 other name d found (is ∙ same);
+    alone = λ it same e other found. whole.once e dir.0 other name it found (is ∙ same);
     empty = gone;
     moves = moves;
   }
