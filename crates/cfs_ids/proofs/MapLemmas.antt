@@ -1,6 +1,6 @@
 -- Facts about finite maps and their entries, for the laws of worlds.
 use Rattle.std.proofs.Common.{◌≡◌, ℕ, ◌+◌, List, [], ◌∷◌, map, Bool, cond, refl, sym, ◌∙◌, ap, arith}
-use Rattle.std.specs.Prelude.{◌||◌, None}
+use Rattle.std.specs.Prelude.{◌||◌, Some, None}
 use Rattle.std.proofs.lemmas.Bool.Decides.{nat_tests}
 use Rattle.std.specs.Option.{option_map}
 use Rattle.std.specs.List.{list_any}
@@ -9,8 +9,8 @@ use Rattle.std.specs.declared.cmp.Ordering.TheVariants.{Equal}
 use Rattle.std.specs.Ordering.{nat_cmp}
 use Rattle.std.specs.Cmp.{IsTotalOrder}
 use Rattle.std.specs.Cmp.Lexicographic.{slice_cmp}
-use Rattle.std.specs.FinMap.{FinMap, get, entries, find, put, get-entries, get-from_entries}
-use Rattle.cfs_ids.specs.Maps.{within, how_many, map_values}
+use Rattle.std.specs.FinMap.{FinMap, get, insert, entries, find, put, gets, get-entries, get-from_entries}
+use Rattle.cfs_ids.specs.Maps.{Numbers, within, how_many, map_values}
 
 module _ {K X : Type 0} (R : K → K → Ordering) where
   -- a new key adds what the test says of it
@@ -40,3 +40,7 @@ find-map R f q (e ∷ es) same = grind (arith, find-map R f q es same, same e.0)
 
 pub get-map_values : {K X Y : Type 0} {R : K → K → Ordering} (o : IsTotalOrder R) → ((x y : K) → R x y ≡ Equal → x ≡ y) → (f : K → X → Y) (m : FinMap R X) (q : K) → get (map_values f m) q ≡ option_map (f q) (get m q)
 get-map_values {R = R} o same f m q = get-from_entries o (map (λ e. (e.0, f e.0 e.1)) (entries m)) q ∙ find-map R f q (entries m) (same q) ∙ ap (option_map (f q)) (sym (get-entries m q))
+
+-- what is inserted at a key is found there
+pub get-insert_here : {X : Type 0} (m : Numbers X) (key : ℕ) (x : X) → get (insert m key x) key ≡ Some x
+get-insert_here m key x = grind (arith, nat_tests, gets)

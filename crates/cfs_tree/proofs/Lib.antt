@@ -1,14 +1,8 @@
 pub mod Alike
-pub mod Chains
 pub mod Counting
-pub mod Found
+pub mod Kept
 pub mod Making
 pub mod Moving
 pub mod Parents
-pub mod Rearranged
 pub mod Root
-pub mod Slots
-pub mod Whole
-pub mod WholeMoves
-pub mod WholeRenames
 pub mod Written

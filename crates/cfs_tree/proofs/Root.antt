@@ -10,7 +10,7 @@ use Rattle.cfs_ids.specs.declared.ids.FileId.{FileId}
 use Rattle.cfs_ids.specs.declared.ids.Node.TheVariants.{Dir, File}
 use Rattle.cfs_ids.specs.declared.call.Call.TheVariants.{Create, Mkdir}
 use Rattle.cfs_ids.specs.Namespace.{Namespace, Directory, IsDefined, empty_root, free_for}
-use Rattle.cfs_maps.proofs.Inner.{get-insert_here}
+use Rattle.cfs_ids.proofs.MapLemmas.{get-insert_here}
 
 root_there : (d : Directory) → get {R = nat_cmp} (insert {R = nat_cmp} empty 0 d) 0 ≡ Some d
 root_there d = get-insert_here empty 0 d

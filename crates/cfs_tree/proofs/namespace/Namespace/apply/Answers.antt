@@ -1,4 +1,4 @@
-use Rattle.cfs_tree.proofs.Whole.{whole-either}
+use Rattle.cfs_tree.proofs.Kept.{whole-either}
 use Rattle.cfs_tree.proofs.namespace.Namespace.apply.Goals as goal
 
 pub returns-clause-whole : goal.returns-clause-whole

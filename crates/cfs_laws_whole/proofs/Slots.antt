@@ -12,7 +12,7 @@ use Rattle.cfs_ids.specs.declared.ids.DirId.{DirId}
 use Rattle.cfs_ids.specs.declared.ids.Node.{Node}
 use Rattle.cfs_ids.specs.Maps.{Names, Numbers}
 use Rattle.cfs_ids.specs.Namespace.{Directory, node_at, with_name, without_name, name_set, name_cut}
-use Rattle.cfs_maps.proofs.Inner.{get-insert_here}
+use Rattle.cfs_ids.proofs.MapLemmas.{get-insert_here}
 
 -- two names are one, directory and all
 abbrev pub IsSlot : (d : ℕ) (name : List ℕ) (e : ℕ) (other : List ℕ) → Type 0

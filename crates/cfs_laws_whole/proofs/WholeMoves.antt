@@ -13,10 +13,10 @@ use Rattle.cfs_ids.specs.declared.call.Reply.TheVariants.{Moved, Refused}
 use Rattle.cfs_ids.specs.declared.errno.Errno.TheVariants.{Enotempty}
 use Rattle.cfs_ids.specs.Maps.{Numbers}
 use Rattle.cfs_ids.specs.Namespace.{Directory, FileFacts, Namespace, node_at, is_empty, create_in, unlinked, removed, cut_file, name_set, name_cut, without_dir, created, made_dir, unlinked_in, removed_in, truncated, IsThere, IsWhole}
-use Rattle.cfs_maps.proofs.Inner.{get-insert_here}
-use Rattle.cfs_tree.proofs.Chains.{below-reached, reached-below}
-use Rattle.cfs_tree.proofs.Slots.{IsSlot, slots, IsDirThere, listing-there, get-insert_apart, get-remove_apart, get-remove_at, set-here, set-other, set-elsewhere, cut-here, cut-other, removed-empty, there-insert, there-before}
-use Rattle.cfs_tree.proofs.Rearranged.{Rearranges, Allows, IsReplaced, whole-rearranged}
+use Rattle.cfs_ids.proofs.MapLemmas.{get-insert_here}
+use Rattle.cfs_laws_whole.proofs.Chains.{below-reached, reached-below}
+use Rattle.cfs_laws_whole.proofs.Slots.{IsSlot, slots, IsDirThere, listing-there, get-insert_apart, get-remove_apart, get-remove_at, set-here, set-other, set-elsewhere, cut-here, cut-other, removed-empty, there-insert, there-before}
+use Rattle.cfs_laws_whole.proofs.Rearranged.{Rearranges, Allows, IsReplaced, whole-rearranged}
 
 -- ---- what sets, cuts and moves rearrange
 pub set-rearranges : (dirs : Numbers Directory) (dir : DirId) (name : List ℕ) (node : Node) (ts : ℕ) → Rearranges dirs (name_set dirs dir name node ts) dir.0 name dir.0 name (Some node)

@@ -12,10 +12,10 @@ use Rattle.cfs_ids.specs.declared.call.Reply.TheVariants.{Moved, Kept, Refused}
 use Rattle.cfs_ids.specs.declared.errno.Errno.TheVariants.{Enotempty, Einval}
 use Rattle.cfs_ids.specs.Maps.{Numbers}
 use Rattle.cfs_ids.specs.Namespace.{Directory, Namespace, node_at, is_empty, is_below, is_one_name, moves_out, onto, onto_name, renamed, name_set, name_cut, set_moved, without_dir, renamed_in, IsThere, IsWhole}
-use Rattle.cfs_tree.proofs.Chains.{Reaches, below-reached}
-use Rattle.cfs_tree.proofs.Slots.{IsSlot, IsDirThere, listing-there, there-insert, there-before}
-use Rattle.cfs_tree.proofs.Rearranged.{Allows, IsReplaced, whole-rearranged}
-use Rattle.cfs_tree.proofs.WholeMoves.{move-rearranges, without-rearranges, known-without, stay-without, no-names}
+use Rattle.cfs_laws_whole.proofs.Chains.{Reaches, below-reached}
+use Rattle.cfs_laws_whole.proofs.Slots.{IsSlot, IsDirThere, listing-there, there-insert, there-before}
+use Rattle.cfs_laws_whole.proofs.Rearranged.{Allows, IsReplaced, whole-rearranged}
+use Rattle.cfs_laws_whole.proofs.WholeMoves.{move-rearranges, without-rearranges, known-without, stay-without, no-names}
 
 -- what a rename that moves has found
 pub record Renames (n : Namespace) (dir : DirId) (name : List ℕ) (to_dir : DirId) (to_name : List ℕ) : Type 0 where

@@ -8,8 +8,8 @@ use Rattle.cfs_ids.specs.declared.ids.Node.{Node}
 use Rattle.cfs_ids.specs.declared.ids.Node.TheVariants.{Dir, File}
 use Rattle.cfs_ids.specs.Maps.{Numbers}
 use Rattle.cfs_ids.specs.Namespace.{Directory, Namespace, node_at, is_below, IsThere, IsWhole}
-use Rattle.cfs_tree.proofs.Chains.{Lists, Chain, Reaches, chain-last, reach-more, below-reached, reached-below}
-use Rattle.cfs_tree.proofs.Slots.{IsSlot, slots, IsDirThere}
+use Rattle.cfs_laws_whole.proofs.Chains.{Lists, Chain, Reaches, chain-last, reach-more, below-reached, reached-below}
+use Rattle.cfs_laws_whole.proofs.Slots.{IsSlot, slots, IsDirThere}
 
 -- the name in `to` has this node now, or none; the name in `from`, another one, has none; each other name has what it had
 pub record Rearranges (dirs dirs' : Numbers Directory) (from : ℕ) (name : List ℕ) (to : ℕ) (to_name : List ℕ) (node : Option Node) : Type 0 where

@@ -1,6 +1,6 @@
 -- A namespace stays whole: the empty root is, each call that moves keeps it so, and so does a file that is forgotten.
 use Rattle.std.proofs.Common.{◌≡◌, ◌≢◌, ℕ, List, Bool, true, false, refl, sym, ◌∙◌, ap, subst, arith}
-use Rattle.std.specs.Prelude.{◌==◌, Option, Some, None, Result, Ok, Err, OnOk, OnErr}
+use Rattle.std.specs.Prelude.{◌==◌, Option, Some, None}
 use Rattle.std.proofs.lemmas.Bool.Decides.{nat_tests}
 use Rattle.std.specs.List.{list_any}
 use Rattle.std.specs.Ordering.{nat_cmp}
@@ -12,12 +12,12 @@ use Rattle.cfs_ids.specs.declared.ids.Node.TheVariants.{Dir, File}
 use Rattle.cfs_ids.specs.declared.call.Call.{Call}
 use Rattle.cfs_ids.specs.declared.call.Call.TheVariants.{Create, Mkdir, Unlink, Rmdir, Truncate, Rename}
 use Rattle.cfs_ids.specs.Namespace.{Directory, Namespace, node_at, names_file, is_listed, forget, empty_root, after, IsDefined, IsThere, IsWhole}
-use Rattle.cfs_maps.proofs.Inner.{get-insert_here}
-use Rattle.cfs_tree.proofs.Found.{passes-name, passes-number}
-use Rattle.cfs_tree.proofs.Chains.{below-reached, reached-below}
-use Rattle.cfs_tree.proofs.Slots.{get-insert_apart, get-remove_apart}
-use Rattle.cfs_tree.proofs.WholeMoves.{free-there, whole-created, whole-made_dir, a-file, whole-unlinked, an-empty, whole-removed, whole-truncated}
-use Rattle.cfs_tree.proofs.WholeRenames.{whole-renamed}
+use Rattle.cfs_ids.proofs.MapLemmas.{get-insert_here}
+use Rattle.cfs_laws_whole.proofs.Found.{passes-name, passes-number}
+use Rattle.cfs_laws_whole.proofs.Chains.{below-reached, reached-below}
+use Rattle.cfs_laws_whole.proofs.Slots.{get-insert_apart, get-remove_apart}
+use Rattle.cfs_laws_whole.proofs.WholeMoves.{free-there, whole-created, whole-made_dir, a-file, whole-unlinked, an-empty, whole-removed, whole-truncated}
+use Rattle.cfs_laws_whole.proofs.WholeRenames.{whole-renamed}
 
 -- ---- the empty root
 root-names : (d : ℕ) (name : List ℕ) → node_at (get empty_root.dirs d) name ≡ None
@@ -85,8 +85,3 @@ whole-forgotten n f free whole = record {
         let it = whole.there d name (File g) is in
         let apart : g.0 ≢ f = λ same. let named = listed n d name g is in let clash : is_listed n f ≡ true = subst (λ k. is_listed n k ≡ true) same named in cc in
         (it.0, get-remove_apart n.files f g.0 apart ∙ it.1)
-
--- ---- whatever the outcome
-pub whole-either : {A E : Type 0} (r : Result A E) (n m : Namespace) (call : Call) (made : Option Node) (ts : ℕ) → IsDefined n call made → OnOk r (m ≡ after n call made ts) → OnErr r (m ≡ n) → IsWhole n → IsWhole m
-whole-either (Ok a) n m call made ts h ok err whole = subst IsWhole (sym ok) (whole-after n call made ts h whole)
-whole-either (Err e) n m call made ts h ok err whole = subst IsWhole (sym err) whole

@@ -9,8 +9,8 @@ use Rattle.cfs_ids.specs.declared.ids.Node.{Node}
 use Rattle.cfs_ids.specs.declared.ids.Node.TheVariants.{Dir, File}
 use Rattle.cfs_ids.specs.Maps.{Numbers}
 use Rattle.cfs_ids.specs.Namespace.{Directory, Namespace, node_at, rows_of, of_dir, leads, is_below}
-use Rattle.cfs_tree.proofs.Found.{found-name, passes-name, or_true}
-use Rattle.cfs_tree.proofs.Slots.{get-remove_apart, listing-there}
+use Rattle.cfs_laws_whole.proofs.Found.{found-name, passes-name, or_true}
+use Rattle.cfs_laws_whole.proofs.Slots.{get-remove_apart, listing-there}
 
 -- the list of directory d has directory c under a name
 abbrev pub Lists : Numbers Directory → (d c : ℕ) → Type 0
