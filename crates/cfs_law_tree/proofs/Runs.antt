@@ -5,9 +5,11 @@ use Rattle.std.proofs.lemmas.List.{replicate_more, map-append, take-map, length-
 use Rattle.cfs_ids.specs.declared.ids.Actor.{Actor}
 use Rattle.cfs_ids.specs.declared.ids.PlaceNo.{PlaceNo}
 use Rattle.cfs_ids.specs.declared.memory.NoMemory.{NoMemory}
+use Rattle.cfs_ids.specs.Namespace.{IsWhole}
 use Rattle.cfs_rules.specs.Facts.{CountsHold, AttributesHold}
+use Rattle.cfs_rules.specs.Trees.{tree}
 use Rattle.cfs_rules.specs.Worlds.{World, Counts, Setup, turn, turn_asking, asked_next, next_ask, client_of as numbered, opening, run_of, played}
-use Rattle.cfs_laws_places.proofs.Laws.{counts_of as counts_hold, attributes_of as attributes_hold}
+use Rattle.cfs_laws_places.proofs.Laws.{counts_of as counts_hold, attributes_of as attributes_hold, whole_of}
 use Rattle.cfs_core.specs.Clients.{number_in}
 use Rattle.cfs_core.specs.Cores.{AsksFull, counts_of, held_of, world_of}
 use Rattle.cfs_core.specs.declared.service.Core.{Core}
@@ -35,6 +37,10 @@ counts-at setup before core is turns n = let some = take n (map number_in turns)
 pub attributes-at : (setup : Setup) (before : List ℕ) (core : Core) → IsPlayed setup before core → (turns : List Actor) (n : ℕ) → AttributesHold (world_at core turns n).shard (world_at core turns n).store
 attributes-at setup before core is turns n = let some = take n (map number_in turns) in
     subst (λ (w : World). AttributesHold w.shard w.store) (played-on setup before some core is) (attributes_hold setup is.good (before ++ some))
+
+pub whole-at : (setup : Setup) (before : List ℕ) (core : Core) → IsPlayed setup before core → (turns : List Actor) (n : ℕ) → IsWhole (tree (world_at core turns n).shard (world_at core turns n).store)
+whole-at setup before core is turns n = let some = take n (map number_in turns) in
+    subst (λ (w : World). IsWhole (tree w.shard w.store)) (played-on setup before some core is) (whole_of setup is.good (before ++ some))
 
 -- one more turn of the same actor
 pub run-more : (counts : Counts) (actor : Actor) (made : ℕ) (w : World) → run_of counts (map number_in (replicate (made + 1) actor)) w ≡ turn counts (run_of counts (map number_in (replicate made actor)) w) (number_in actor)

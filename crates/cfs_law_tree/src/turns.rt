@@ -1,7 +1,9 @@
 //! Lists of turns.
 ghost use Rattle.std.specs.Prelude.{◌≡◌, ◌≢◌, ◌≤◌, ◌+◌, Ok, ℕ, List, IsTrue, map, replicate};
 ghost use Rattle.std.specs.List.{list_all};
+ghost use Rattle.cfs_ids.specs.Namespace.{IsWhole};
 ghost use Rattle.cfs_rules.specs.Facts.{CountsHold, AttributesHold};
+ghost use Rattle.cfs_rules.specs.Trees.{tree};
 ghost use Rattle.cfs_rules.specs.Worlds.{Setup, run_of};
 ghost use Rattle.cfs_core.specs.Clients.{number_in};
 ghost use Rattle.cfs_core.specs.Cores.{counts_of, world_of, members_of, steps_of};
@@ -53,9 +55,10 @@ pub fn drive(core: &mut Core, turns: &TurnList) -> Result<Driven, NoMemory>
     ensures members { members_of core.new ≡ members_of core.old }
     ensures places { counts_of core.new ≡ counts_of core.old }
 
-    // At every step of a run each directory counts its rows, and each row's node has a record.
+    // At every step of a run each directory counts its rows, each row's node has a record, and the tree is whole.
     ensures counts { (setup : Setup) (before : List ℕ) → IsPlayed setup before core.old → (n : ℕ) → CountsHold (world_at core.old (turns_in turns.now) n).shard }
     ensures attributes { (setup : Setup) (before : List ℕ) → IsPlayed setup before core.old → (n : ℕ) → AttributesHold (world_at core.old (turns_in turns.now) n).shard (world_at core.old (turns_in turns.now) n).store }
+    ensures whole { (setup : Setup) (before : List ℕ) → IsPlayed setup before core.old → (n : ℕ) → IsWhole (tree (world_at core.old (turns_in turns.now) n).shard (world_at core.old (turns_in turns.now) n).store) }
 {
     for listed in turns.as_slice() {
         match repeat(core, listed.0, listed.1)? {

@@ -15,3 +15,4 @@ pub mod Moves
 pub mod Callers
 pub mod Histories
 pub mod EachLine
+pub mod Whole

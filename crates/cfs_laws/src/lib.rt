@@ -3,8 +3,10 @@
 
 ghost use Rattle.std.specs.Prelude.{◌≡◌, ℕ, List};
 ghost use Rattle.cfs_ids.specs.declared.ids.PlaceNo.{PlaceNo};
+ghost use Rattle.cfs_ids.specs.Namespace.{IsWhole};
 ghost use Rattle.cfs_steps.specs.declared.call_done.ClientCalls.{ClientCalls};
 ghost use Rattle.cfs_steps.specs.declared.entry.Entry.{Entry};
+ghost use Rattle.cfs_steps.specs.declared.line.HistoryItem.{HistoryItem};
 ghost use Rattle.cfs_rules.specs.Members.{HasCallers, IsRising};
 ghost use Rattle.cfs_rules.specs.Facts.{MovesMatch};
 ghost use Rattle.cfs_rules.specs.Histories.{history_of, lines_of, world_history};
@@ -24,6 +26,11 @@ pub fn one_legal_history()
         → final (world_history members (played setup turns)) ≡ tree (played setup turns).shard (played setup turns).store }
     ensures moves { (setup : Setup) → IsSetup setup → (turns members : List ℕ) → IsRising members → HasCallers setup.plans members
         → MovesMatch (played setup turns).run (world_history members (played setup turns)) }
+{}
+
+/// Whatever calls a legal history has, the namespace that it ends in is whole.
+pub fn legal_histories_end_whole()
+    ensures { (items : List HistoryItem) → IsLegal items → IsWhole (final items) }
 {}
 
 /// A history has each line of its calls, as often as it stands among them: no call that made a step is lost where the

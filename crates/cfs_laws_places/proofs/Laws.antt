@@ -1,5 +1,5 @@
 -- What holds after any list of turns.
-use Rattle.std.proofs.Common.{◌≡◌, ◌≢◌, ℕ, ◌<◌, List, [], ◌∷◌, Bool, true, false, cond, refl, sym, ◌∙◌, ap, arith, inl, inr}
+use Rattle.std.proofs.Common.{◌≡◌, ◌≢◌, ℕ, ◌<◌, List, [], ◌∷◌, Bool, true, false, cond, refl, sym, ◌∙◌, ap, subst, arith, inl, inr}
 use Rattle.std.specs.Prelude.{◌==◌, Option, Some, None}
 use Rattle.std.proofs.lemmas.Bool.Decides.{nat_tests}
 use Rattle.std.specs.Option.{option_map}
@@ -11,7 +11,7 @@ use Rattle.cfs_ids.specs.declared.ids.Client.{Client}
 use Rattle.cfs_ids.specs.declared.ids.Node.{Node}
 use Rattle.cfs_ids.specs.declared.ids.Node.TheVariants.{Dir, File}
 use Rattle.cfs_ids.specs.Maps.{Names}
-use Rattle.cfs_ids.specs.Namespace.{Directory, FileFacts, empty_root}
+use Rattle.cfs_ids.specs.Namespace.{Directory, FileFacts, empty_root, IsWhole}
 use Rattle.cfs_steps.specs.declared.contents.Row.{Row}
 use Rattle.cfs_steps.specs.declared.contents.DirRec.{DirRec}
 use Rattle.cfs_steps.specs.declared.contents.FileRec.{FileRec}
@@ -31,6 +31,7 @@ use Rattle.cfs_rules.proofs.TreeLookups.{get-tree_dirs, get-tree_files}
 use Rattle.cfs_laws_places.proofs.Trees.{no_names}
 use Rattle.cfs_laws_places.proofs.Told.{lookup_told, list_told, make_told}
 use Rattle.cfs_laws_places.proofs.Turns.{next_of, run_keeps, run_past, shown_has}
+use Rattle.cfs_laws_places.proofs.Whole.{space-whole}
 
 -- ---- the opening
 no_rows : entries (empty {X = Row} {R = slice_cmp nat_cmp}) ≡ []
@@ -155,6 +156,9 @@ module _ (setup : Setup) (good : IsSetup setup) (turns : List ℕ) where
 
   pub moves_of : MovesAllowed (played setup turns).run
   moves_of = past_now.allowed
+
+  pub whole_of : IsWhole (tree (played setup turns).shard (played setup turns).store)
+  whole_of = subst IsWhole (sym tree_of) (space-whole (played setup turns).run moves_of)
 
   pub counts_of : CountsHold (played setup turns).shard
   counts_of = holds_now.places.counts

@@ -7,3 +7,4 @@ pub mod Records
 pub mod Told
 pub mod Trees
 pub mod Turns
+pub mod Whole

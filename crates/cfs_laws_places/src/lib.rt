@@ -3,6 +3,7 @@
 #![tactic(auto)]
 
 ghost use Rattle.std.specs.Prelude.{◌≡◌, ℕ, List};
+ghost use Rattle.cfs_ids.specs.Namespace.{IsWhole};
 ghost use Rattle.cfs_rules.specs.Worlds.{Setup, IsSetup, played, turn};
 ghost use Rattle.cfs_rules.specs.Trees.{tree};
 ghost use Rattle.cfs_rules.specs.Facts.{CountsHold, AttributesHold, MovesAllowed, space};
@@ -27,6 +28,11 @@ pub fn tree_follows()
 /// Each move is one that the namespace allows as the moves before it made it.
 pub fn moves_allowed()
     ensures { (setup : Setup) → IsSetup setup → (turns : List ℕ) → MovesAllowed (played setup turns).run }
+{}
+
+/// The tree that the places hold is whole.
+pub fn tree_is_whole()
+    ensures { (setup : Setup) → IsSetup setup → (turns : List ℕ) → IsWhole (tree (played setup turns).shard (played setup turns).store) }
 {}
 
 /// What the places have of a name or a directory is what the tree answers.

@@ -25,6 +25,7 @@ pub of-run : (script : Script) (run : Run) (p : Printed) → IsInForm script →
 of-run script run p form of judged shards stores replies trees steps tally = record {
   legal = judged.legal;
   last = judged.last ∙ sym printed_tree;
+  whole = judged.whole;
   moves = judged.moves;
   calls = judged.calls;
   history = judged.history;

@@ -1,6 +1,7 @@
 -- What a script's run prints.
 use Rattle.std.specs.Prelude.{◌≡◌, List, length, map}
 use Rattle.cfs_ids.specs.declared.ids.Client.{Client}
+use Rattle.cfs_ids.specs.Namespace.{IsWhole}
 use Rattle.cfs_script.specs.declared.script.Script.{Script}
 use Rattle.cfs_print.specs.declared.printed.Printed.{Printed}
 use Rattle.cfs_rules.specs.Facts.{MovesMatch}
@@ -25,11 +26,12 @@ abbrev pub calls_after : List (Client × List Command) → World → List Client
 calls_after lists w = map (λ c. calls_of (client_of c) (w.clients c)) (members_in lists)
 
 -- What is printed of the world after the turns, for so many shards and stores and for the clients of these lists. Its history
--- is legal and has each move and each call, the printed tree is the namespace that it ends in, and each command has the reply
--- that its calls' replies come to.
+-- is legal and has each move and each call, the printed tree is the namespace that it ends in, a whole one, and each command
+-- has the reply that its calls' replies come to.
 pub record IsPrintedOf (counts : Counts) (lists : List (Client × List Command)) (w : World) (printed : Printed) : Type 0 where
   pub legal : IsLegal printed.history
   pub last : final printed.history ≡ printed.tree
+  pub whole : IsWhole (final printed.history)
   pub moves : MovesMatch w.run printed.history
   pub calls : HasEachLine printed.history (lines_of w.run (calls_after lists w))
   pub history : printed.history ≡ world_history (members_in lists) w

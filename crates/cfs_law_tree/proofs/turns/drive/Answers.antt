@@ -10,7 +10,7 @@ use Rattle.cfs_core.specs.Cores.{counts_of, world_of, members_of}
 use Rattle.cfs_law_tree.proofs.Rows.{count_in-more, count_in-take, count_in-with, full-within, run-more-rows, stops-within, turns_in-at}
 use Rattle.cfs_core.proofs.Commands.{true-at}
 use Rattle.cfs_law_tree.specs.Drives.{are_turns_of, is_turn_of, StopsFull, StopsIn}
-use Rattle.cfs_law_tree.proofs.Runs.{counts-at, attributes-at}
+use Rattle.cfs_law_tree.proofs.Runs.{counts-at, attributes-at, whole-at}
 use Rattle.cfs_law_tree.proofs.turns.drive.Goals as goal
 
 abbrev none : Actor × ℕ
@@ -33,6 +33,9 @@ returns-in_err-repeat-clause-counts c = λ setup before is n. counts-at setup be
 pub returns-in_err-repeat-clause-attributes : goal.returns-in_err-repeat-clause-attributes
 returns-in_err-repeat-clause-attributes c = λ setup before is n. attributes-at setup before c.args.core.now is (turns_in c.args.turns.now) n
 
+pub returns-in_err-repeat-clause-whole : goal.returns-in_err-repeat-clause-whole
+returns-in_err-repeat-clause-whole c = λ setup before is n. whole-at setup before c.args.core.now is (turns_in c.args.turns.now) n
+
 pub returns-in-Full-clause-stopped : goal.returns-in-Full-clause-stopped
 returns-in-Full-clause-stopped c = λ n.
     let within : c.loop-listed.listed-index < length c.args.turns.now = rw c.as_slice-listed-items.ensures at c.loop-listed-test.true in
@@ -53,6 +56,9 @@ returns-in-Full-clause-counts c = λ setup before is n. counts-at setup before c
 pub returns-in-Full-clause-attributes : goal.returns-in-Full-clause-attributes
 returns-in-Full-clause-attributes c = λ setup before is n. attributes-at setup before c.args.core.now is (turns_in c.args.turns.now) n
 
+pub returns-in-Full-clause-whole : goal.returns-in-Full-clause-whole
+returns-in-Full-clause-whole c = λ setup before is n. whole-at setup before c.args.core.now is (turns_in c.args.turns.now) n
+
 pub loop-listed-preserved : goal.loop-listed-preserved
 loop-listed-preserved c =
     let within : c.loop-listed.listed-index < length c.args.turns.now = rw c.as_slice-listed-items.ensures at c.loop-listed-test.true in
@@ -71,6 +77,9 @@ returns-clause-counts c = λ setup before is n. counts-at setup before c.args.co
 
 pub returns-clause-attributes : goal.returns-clause-attributes
 returns-clause-attributes c = λ setup before is n. attributes-at setup before c.args.core.now is (turns_in c.args.turns.now) n
+
+pub returns-clause-whole : goal.returns-clause-whole
+returns-clause-whole c = λ setup before is n. whole-at setup before c.args.core.now is (turns_in c.args.turns.now) n
 
 pub returns-in_err-repeat-clause-steps : goal.returns-in_err-repeat-clause-steps
 returns-in_err-repeat-clause-steps c =
