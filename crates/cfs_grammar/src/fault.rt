@@ -14,9 +14,9 @@ pub enum Fault {
     BadNumber,
     /// The first word, or the command, isn't known, or the number of words is wrong.
     BadCommand,
-    /// A path isn't 1 to 64 times a slash and a component, in 1,024 bytes at most.
+    /// A path isn't 1 to 64 times a slash and a component, in 1,024 bytes at most, nor, for `list` and `stat`, the root.
     BadPath,
-    /// A limit on bytes, commands or turns is passed.
+    /// A limit on bytes, commands, lists or turns is passed.
     TooMany,
     /// The line has over 4,096 bytes.
     LineTooLong,

@@ -16,7 +16,7 @@ fn place_of_other(text: &[u8], byte: u8) -> Option<usize>
     text.iter().position(|b| *b != byte)
 }
 
-/// What stands before and after the first such byte.
+/// What stands before and after the first such byte. None comes exactly where there is no such byte.
 #[tactic(auto, using(crate::proofs::Cutting::cutting))]
 pub fn cut_at(text: &[u8], byte: u8) -> Option<(&[u8], &[u8])>
     ensures found { IfSome result (λ parts. pieces byte text.now ≡ parts.0.now ∷ pieces byte parts.1.now) }

@@ -1,5 +1,5 @@
 //! Reading a source to its end.
-ghost use Rattle.std.specs.Prelude.{◌≤◌, ◌<◌, ◌^◌, IfOk, IsErrOf};
+ghost use Rattle.std.specs.Prelude.{◌≡◌, ◌≢◌, ◌≤◌, ◌<◌, ◌^◌, Err, IfOk, IsErrOf};
 ghost use Rattle.cfs_io.specs.Causes.{Rose};
 ghost use Rattle.cfs_io.specs.Input.{ReadsWithin};
 
@@ -16,8 +16,9 @@ pub enum ReadError {
     NoMemory,
 }
 
-/// Reads to the end of input, or to the first byte past `most`. `Failed` comes where a read failed, and `NoMemory`
-/// where no memory was left; the source has then lost what was read of it.
+/// Reads to the end of input, or to the first byte past `most`, a number below 2^63. `Failed` comes exactly where a read
+/// failed, and `NoMemory` where no memory was left. After either, what was read is lost, and the contract says nothing of
+/// what the source has left.
 pub fn read_within<S: Source>(
     alloc: Global,
     source: &mut S,
@@ -27,6 +28,7 @@ pub fn read_within<S: Source>(
     ensures bytes { IfOk result (λ v. ReadsWithin most (S.left source.old) (S.left source.new) v.items) }
     ensures later { S.faults source.old ≤ S.faults source.new }
     ensures cause { IsErrOf result ReadError.Failed → Rose (S.faults source.old) (S.faults source.new) }
+    ensures no_fault { result ≢ Err ReadError.Failed → S.faults source.new ≡ S.faults source.old }
 {
     let mut bytes = Vec::new(alloc);
     let mut piece = [0; PIECE];

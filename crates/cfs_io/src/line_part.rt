@@ -1,5 +1,5 @@
 //! Going over a line, piece by piece.
-ghost use Rattle.std.specs.Prelude.{◌≡◌, ◌==◌, ◌≤◌, ◌<◌, ◌+◌, [], length, true, IfOk, OnErr, IsErrOf, position};
+ghost use Rattle.std.specs.Prelude.{◌≡◌, ◌≢◌, ◌==◌, ◌≤◌, ◌<◌, ◌+◌, [], length, true, Err, IfOk, OnErr, IsErrOf, position};
 ghost use Rattle.std.specs.List.{position_or_len};
 ghost use Rattle.std.specs.Io.KnownBytes.{prepend_known};
 ghost use Rattle.cfs_io.specs.Causes.{Rose};
@@ -74,6 +74,7 @@ pub fn read_line<S: Source>(
     ensures last { IfOk result (λ got. is_last got ≡ true → ahead.new.bytes ≡ []) }
     ensures later { S.faults source.old ≤ S.faults source.new }
     ensures read_fault { IsErrOf result LineFault.Read → Rose (S.faults source.old) (S.faults source.new) }
+    ensures no_fault { result ≢ Err LineFault.Read → S.faults source.new ≡ S.faults source.old }
     ensures no_memory { IsErrOf result LineFault.NoMemory → HasByte (prepend_known ahead.old.bytes (S.left source.old)) }
 {
     let mut line = LineGot::End;

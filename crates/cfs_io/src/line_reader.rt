@@ -1,5 +1,5 @@
 //! Reading a source line by line.
-ghost use Rattle.std.specs.Prelude.{◌≡◌, ◌≤◌, ◌<◌, ◌+◌, ◌^◌, ℕ, List, [], length, Some, true, false, IsOk, IfOk, OnErr, IsErrOf};
+ghost use Rattle.std.specs.Prelude.{◌≡◌, ◌≢◌, ◌≤◌, ◌<◌, ◌+◌, ◌^◌, ℕ, List, [], length, Some, Err, true, false, IsOk, IfOk, OnErr, IsErrOf};
 ghost use Rattle.cfs_io.specs.Causes.{Rose};
 ghost use Rattle.cfs_io.specs.Lines.{is_last, HasByte, GoesInto, TellsLine, TellsFirst};
 
@@ -24,8 +24,8 @@ pub struct LineReader<'a, S: Source> {
 impl<'a, S: Source> LineReader<'a, S> {
     ghost use Rattle.cfs_io.specs.Unread.{unread};
 
-    /// A reader of the lines of what the source has left, under a limit of `most` bytes. It takes no memory, so the Err
-    /// never comes; memory is taken for the lines.
+    /// A reader of the lines of what the source has left, under a limit of `most` bytes, a number below 2^63. It takes
+    /// no memory, so the Err never comes; memory is taken for the lines.
     pub fn new(alloc: Global, source: &'a mut S, most: u64) -> Result<LineReader<'a, S>, NoMemory>
         requires { most < 2 ^ 63 }
         ensures ok { IsOk result }
@@ -45,7 +45,7 @@ impl<'a, S: Source> LineReader<'a, S> {
     /// The number of the next line, from 1, and what stands there. `PastLimit` comes exactly where the line goes past
     /// the limit, its LF counted, and else `TooLong` exactly where it has over 4,096 bytes, its LF not counted; its
     /// rest is passed over. `End` comes exactly at the end of input, under the number of the lines plus 1. `Read`
-    /// comes only where a read failed, and `NoMemory` where no memory was left for a line. Behind a line and behind
+    /// comes exactly where a read failed, and `NoMemory` where no memory was left for a line. Behind a line and behind
     /// `TooLong` there may be more; behind anything else this call is not made again.
     pub fn next_line(&mut self) -> Result<(u64, LineGot), LineFault>
         requires { self.old.ended ≡ false }
@@ -61,6 +61,7 @@ impl<'a, S: Source> LineReader<'a, S> {
         ensures ended { OnErr result (self.new.ended ≡ true) }
         ensures later { S.faults self.old.source.now ≤ S.faults self.new.source.now }
         ensures read_fault { IsErrOf result LineFault.Read → Rose (S.faults self.old.source.now) (S.faults self.new.source.now) }
+        ensures no_fault { result ≢ Err LineFault.Read → S.faults self.new.source.now ≡ S.faults self.old.source.now }
         ensures no_memory { IsErrOf result LineFault.NoMemory → HasByte (unread self.old) }
     {
         self.ended = true;

@@ -24,7 +24,7 @@ pub struct MemSource {
 }
 
 impl MemSource {
-    /// A source of these bytes that gives at most `piece` of them at a read.
+    /// A source of these bytes that gives at most `piece` of them, 1 or more, at a read.
     pub fn new(bytes: Vec<u8>, piece: usize, fails: Vec<u64>) -> MemSource
         requires { 0 < piece }
         ensures left { ⟦<MemSource as Source>⟧.left result ≡ Some bytes.items }
@@ -89,7 +89,8 @@ pub struct MemSink {
 }
 
 impl MemSink {
-    /// A sink for at most `room` bytes that takes at most `piece` of them at a write. The Err is want of memory.
+    /// A sink for at most `room` bytes that takes at most `piece` of them, 1 or more, at a write. The Err is want of
+    /// memory.
     pub fn new(
         alloc: Global,
         room: usize,

@@ -55,9 +55,9 @@ impl<T: Logged> Cell<T> {
         Ok((Cell { queue }, Pass { seat }))
     }
 
-    /// Takes the value out of the cell. The Err comes only where the cell was empty at a moment of this call: a pass
-    /// had taken the value. Where this pass holds nothing it was another one, and where this is the first pass it was
-    /// one whose number is out. The pass is then as before. It may wait.
+    /// Takes the value out of the cell. The Err comes only where some pass in use has taken it: another pass where this one
+    /// holds nothing, and one whose number is out where this is the first pass. That this was so at a moment of the call is
+    /// the queue's word, and no clause names the moment. The pass is then as before. It may wait.
     pub fn try_take<'a, R: Wait>(&'a self, rt: &R, pass: &mut Pass<T>) -> Result<Held<'a, T>, Taken>
         requires { IsPassOf self.now pass.old }
         ensures pass { IsPassOf self.now pass.new }

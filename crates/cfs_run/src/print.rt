@@ -28,6 +28,7 @@ pub fn print<K: Sink>(alloc: Global, script: &Script, sink: &mut K) -> Result<()
     requires form { IsInForm script.now }
     ensures ok { OnOk result (Prints script.now (K.taken sink.old) (K.taken sink.new)) }
     ensures write_fault { result ≡ Err PrintFault.Write → Rose (K.faults sink.old) (K.faults sink.new) }
+    ensures no_write_fault { result ≢ Err PrintFault.Write → K.faults sink.new ≡ K.faults sink.old }
     ensures cut_off { result ≡ Err PrintFault.Write → PrintsFront script.now (K.taken sink.old) (K.taken sink.new) }
     ensures untouched { IfErr result (λ fault. fault ≢ PrintFault.Write → sink.new ≡ sink.old) }
     ensures not_full { (place : PlaceNo) → result ≢ Err (PrintFault.LogFull place) }

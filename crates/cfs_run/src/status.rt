@@ -22,7 +22,7 @@ pub enum Status {
     WriteFault,
     /// No memory was left. Nothing was written.
     NoMemory,
-    /// The log of this place has no room for the next step. Nothing was written.
+    /// The log of this place has no room for the next step. Nothing was written. No command that is built answers it.
     LogFull { place: PlaceNo },
 }
 

@@ -8,7 +8,7 @@ use crate::top::replay;
 use cfs_io::{SureSink, SureSource};
 use std::alloc::Global;
 
-/// Reads a script of these bytes, makes its turns, and counts the bytes of what came of them. No device fails, so the
+/// Reads a script of these bytes, makes its turns, and drops the text of what came of them. No device fails, so the
 /// status is that of the bytes, or want of memory.
 pub fn replay_bytes(alloc: Global, bytes: Vec<u8>) -> Status
     ensures read_fault { result ≢ Status.ReadFault }

@@ -18,7 +18,10 @@ use std::alloc::Global;
 use std::sync::Wait;
 use std::thread::Threads;
 
-/// Reads a script, makes its turns, and writes what came of them.
+/// Reads a script, makes its turns, and writes what came of them. The status is Done where all was read and written;
+/// Script with the first line that has a fault, and the first of its faults; ReadFault and WriteFault exactly where the
+/// device failed; and NoMemory where no memory was left, which comes only before the first byte is written. No other
+/// status comes.
 pub fn replay<S: Source, K: Sink>(alloc: Global, source: &mut S, sink: &mut K) -> Status
     // What was read is a script, and what was taken is the text of its run.
     ensures done { result ≡ Status.Done → Replayed (S.left source.old) (S.left source.new) (K.taken sink.old) (K.taken sink.new) }
@@ -26,9 +29,11 @@ pub fn replay<S: Source, K: Sink>(alloc: Global, source: &mut S, sink: &mut K) -
     // The first line that has a fault, with the first of its faults.
     ensures script { (line : ℕ) (fault : Fault) → result ≡ Status.Script line fault → HasRefused (S.left source.old) (S.left source.new) line fault }
 
-    // A fault has its cause, and what was taken is a front of the text.
+    // A fault comes exactly where the device failed, and what was taken is a front of the text.
     ensures read_fault { result ≡ Status.ReadFault → Rose (S.faults source.old) (S.faults source.new) }
     ensures write_fault { result ≡ Status.WriteFault → Rose (K.faults sink.old) (K.faults sink.new) }
+    ensures no_read_fault { result ≢ Status.ReadFault → S.faults source.new ≡ S.faults source.old }
+    ensures no_write_fault { result ≢ Status.WriteFault → K.faults sink.new ≡ K.faults sink.old }
     ensures cut_off { result ≡ Status.WriteFault → CutOff (S.left source.old) (S.left source.new) (K.taken sink.old) (K.taken sink.new) }
     ensures untouched { ComesBeforeWriting result → sink.new ≡ sink.old }
 
@@ -78,7 +83,9 @@ fn usage(words: &[String]) -> Option<usize>
     }
 }
 
-/// All that the program does. The runtime and the gate are for commands that run on threads; `replay` uses neither.
+/// All that the program does with the words behind its name. Usage has the index of the first word that isn't expected;
+/// the other statuses are those of `replay`. The runtime and the gate are for commands that run on threads; `replay` uses
+/// neither.
 pub fn cfs_words<R: Threads + Wait + Sync, S: Source, K: Sink, G: Gate + Sync>(
     _rt: &R,
     alloc: Global,
@@ -97,9 +104,11 @@ pub fn cfs_words<R: Threads + Wait + Sync, S: Source, K: Sink, G: Gate + Sync>(
     // The first line that has a fault, with the first of its faults.
     ensures script { (line : ℕ) (fault : Fault) → result ≡ Status.Script line fault → HasRefused (S.left source.old) (S.left source.new) line fault }
 
-    // A fault has its cause, and what was taken is a front of the text.
+    // A fault comes exactly where the device failed, and what was taken is a front of the text.
     ensures read_fault { result ≡ Status.ReadFault → Rose (S.faults source.old) (S.faults source.new) }
     ensures write_fault { result ≡ Status.WriteFault → Rose (K.faults sink.old) (K.faults sink.new) }
+    ensures no_read_fault { result ≢ Status.ReadFault → S.faults source.new ≡ S.faults source.old }
+    ensures no_write_fault { result ≢ Status.WriteFault → K.faults sink.new ≡ K.faults sink.old }
     ensures cut_off { result ≡ Status.WriteFault → CutOff (S.left source.old) (S.left source.new) (K.taken sink.old) (K.taken sink.new) }
     ensures untouched { ComesBeforeWriting result → sink.new ≡ sink.old }
 

@@ -33,7 +33,7 @@ pub enum Command {
 }
 
 impl Command {
-    /// A copy.
+    /// A copy. The Err is want of memory.
     pub fn copy(&self) -> Result<Command, NoMemory>
         ensures { IfOk result (λ copy. copy ≡ self.now) }
     {

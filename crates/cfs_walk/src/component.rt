@@ -59,7 +59,7 @@ impl Component {
         self.bytes.as_slice()
     }
 
-    /// Adds a byte behind the others. The Err is want of memory, and hands the byte back.
+    /// Adds an allowed byte behind the others. The Err is want of memory, and hands the byte back.
     pub fn push(&mut self, byte: u8) -> Result<(), u8>
         requires { IsTrue (is_allowed byte) }
         ensures ok { OnOk result (self.new ≡ self.old ++ byte ∷ []) }
@@ -72,7 +72,7 @@ impl Component {
         }
     }
 
-    /// The component of these bytes, each of which is allowed.
+    /// The component of these bytes, each of which is allowed. The Err is want of memory.
     pub fn from_bytes(alloc: Global, bytes: &[u8]) -> Result<Component, NoMemory>
         requires { IsTrue (list_all is_allowed bytes.now) }
         ensures { IfOk result (λ component. component ≡ bytes.now) }

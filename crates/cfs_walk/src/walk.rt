@@ -89,7 +89,8 @@ fn first_stage(alloc: Global, command: &Command, more: u32) -> Result<Stage, NoM
 impl Walk {
     /// The walk of a command in form, before its first call. A call that is answered Busy is made again as a new call, up
     /// to `tries` times in all, 1 or more. A component of over 255 bytes is answered ENAMETOOLONG (POSIX.1-2017, Base
-    /// Definitions, 4.13), and no call is made.
+    /// Definitions, 4.13), and no call is made. The Err is want of memory, which that answer, and the list and the stat of
+    /// the root, don't take.
     pub fn start(alloc: Global, command: &Command, tries: u32) -> Result<Walk, NoMemory>
         requires form { IsTrue (is_in_form command.now) }
         requires tries { 1 ≤ tries }
@@ -109,7 +110,8 @@ impl Walk {
         Ok(Walk { more, stage })
     }
 
-    /// The call that the command makes next. None comes exactly where it has its reply, and takes no memory.
+    /// The call that the command makes next. None comes exactly where it has its reply, and takes no memory. The Err is
+    /// want of memory.
     pub fn next_call(&self) -> Result<Option<Call>, NoMemory>
         ensures call { IfOk result (λ call. call ≡ call_in (course_in self.now)) }
         ensures sure { call_in (course_in self.now) ≡ None → IsOk result }
@@ -120,8 +122,9 @@ impl Walk {
         }
     }
 
-    /// Goes on by what the call was answered. It takes memory for a copy of the reply alone, where that ends the command;
-    /// a node that was found, and a Busy after which the call is made again, need none.
+    /// Goes on by what the call was answered, where the command has no reply yet. It takes memory for a copy of the reply
+    /// alone, where that ends the command; a node that was found, and a Busy after which the call is made again, need
+    /// none. The Err is want of memory, and leaves the walk as before.
     pub fn hear(&mut self, reply: &Reply) -> Result<(), NoMemory>
         requires { reply_in (course_in self.old) ≡ None }
         ensures ok { OnOk result (course_in self.new ≡ heard_in (course_in self.old) reply.now) }

@@ -1,9 +1,9 @@
-use Rattle.std.proofs.Common.{arith}
+use Rattle.std.proofs.Common.{◌∙◌, refl}
 use Rattle.cfs_io.proofs.Going.{IsGoing-start, IsGoing-piece, TellsLine-line, bound-line, TellsLine-past, TellsLine-end}
 use Rattle.cfs_io.proofs.line_part.read_line.Goals as goal
 
 pub loop-line-init : goal.loop-line-init
-loop-line-init g c = record { going = IsGoing-start _ _; later = omega arith }
+loop-line-init g c = record { going = IsGoing-start _ _; same = refl }
 
 pub returns-in-Line-clause-line : goal.returns-in-Line-clause-line
 returns-in-Line-clause-line g c =
@@ -20,7 +20,7 @@ returns-in-PastLimit-clause-line g c =
 pub loop-line-preserved : goal.loop-line-preserved
 loop-line-preserved g c = record {
   going = IsGoing-piece _ _ _ _ _ _ _ _ _ c.loop-line.invariant.going c.in_ok-has_more.ensures.room c.in_ok-has_more.ensures.kept (rw c.in-Piece.is at c.in_ok-take_part.ensures.ok);
-  later = omega (arith, c.loop-line.invariant.later, c.in_ok-has_more.ensures.cause.later);
+  same = c.in_ok-has_more.ensures.cause.same ∙ c.loop-line.invariant.same;
 }
 
 pub returns-clause-line : goal.returns-clause-line
