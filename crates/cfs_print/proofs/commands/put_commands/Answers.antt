@@ -1,4 +1,4 @@
-use Rattle.std.proofs.Common.{arith}
+use Rattle.std.proofs.Common.{◌∙◌}
 use Rattle.cfs_print.proofs.Passed.{Adds-item, AddsFront-item}
 use Rattle.cfs_print.specs.Commands.{command_line}
 use Rattle.cfs_print.proofs.commands.put_commands.Goals as goal
@@ -7,7 +7,7 @@ use Rattle.cfs_print.proofs.commands.put_commands.Goals as goal
 pub loop-command-preserved : goal.loop-command-preserved
 loop-command-preserved g c = record {
   written = Adds-item command_line c.args.commands.now c.loop-command.command-index c.command-item.result _ _ _ _ _ _ c.loop-command-test.true c.command-item.is c.loop-command.invariant.written c.in_ok-put_command.ensures.ok;
-  later = omega (arith, c.loop-command.invariant.later, c.in_ok-put_command.ensures.cause.later);
+  same = c.in_ok-put_command.ensures.cause.same ∙ c.loop-command.invariant.same;
 }
 
 -- the parts before this one and a front of it are a front

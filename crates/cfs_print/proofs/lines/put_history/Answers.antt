@@ -1,4 +1,4 @@
-use Rattle.std.proofs.Common.{arith}
+use Rattle.std.proofs.Common.{◌∙◌}
 use Rattle.cfs_print.proofs.Passed.{Adds-item, AddsFront-item}
 use Rattle.cfs_print.specs.Lines.{item_text}
 use Rattle.cfs_print.proofs.lines.put_history.Goals as goal
@@ -7,7 +7,7 @@ use Rattle.cfs_print.proofs.lines.put_history.Goals as goal
 pub loop-item-preserved : goal.loop-item-preserved
 loop-item-preserved g c = record {
   written = Adds-item item_text c.args.items.now c.loop-item.item-index c.item-item.result _ _ _ _ _ _ c.loop-item-test.true c.item-item.is c.loop-item.invariant.written c.in_ok-put_item.ensures.ok;
-  later = omega (arith, c.loop-item.invariant.later, c.in_ok-put_item.ensures.cause.later);
+  same = c.in_ok-put_item.ensures.cause.same ∙ c.loop-item.invariant.same;
 }
 
 -- the parts before this one and a front of it are a front

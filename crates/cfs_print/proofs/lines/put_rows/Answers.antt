@@ -1,4 +1,4 @@
-use Rattle.std.proofs.Common.{arith}
+use Rattle.std.proofs.Common.{◌∙◌}
 use Rattle.cfs_print.proofs.Passed.{Adds-item, AddsFront-item}
 use Rattle.cfs_print.specs.Lines.{row_line}
 use Rattle.cfs_print.proofs.lines.put_rows.Goals as goal
@@ -7,7 +7,7 @@ use Rattle.cfs_print.proofs.lines.put_rows.Goals as goal
 pub loop-row-preserved : goal.loop-row-preserved
 loop-row-preserved g c = record {
   written = Adds-item row_line c.args.rows.now c.loop-row.row-index c.row-item.result _ _ _ _ _ _ c.loop-row-test.true c.row-item.is c.loop-row.invariant.written c.in_ok-put_row.ensures.ok;
-  later = omega (arith, c.loop-row.invariant.later, c.in_ok-put_row.ensures.cause.later);
+  same = c.in_ok-put_row.ensures.cause.same ∙ c.loop-row.invariant.same;
 }
 
 -- the parts before this one and a front of it are a front

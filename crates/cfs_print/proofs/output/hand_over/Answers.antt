@@ -1,4 +1,4 @@
-use Rattle.std.proofs.Common.{arith}
+use Rattle.std.proofs.Common.{arith, ◌∙◌}
 use Rattle.std.proofs.lemmas.List.{take_rest, length-drop}
 use Rattle.std.proofs.Math.Seq.{take-add}
 use Rattle.cfs_io.proofs.Written.{Appends-append, AppendsFront-kept}
@@ -12,7 +12,7 @@ loop-at-preserved g c =
     record {
       bound = omega (arith, some.1, length-drop c.loop-at.at c.args.bytes.now);
       written = rw (take-add c.loop-at.at c.in_ok-at.field-0 c.args.bytes.now) (Appends-append _ _ _ _ _ c.loop-at.invariant.written more);
-      later = omega (arith, c.in_ok-at.ensures.cause.later);
+      same = c.in_ok-at.ensures.cause.same ∙ c.loop-at.invariant.same;
     }
 
 -- what stood before the failed write is a front

@@ -1,4 +1,4 @@
-use Rattle.std.proofs.Common.{arith}
+use Rattle.std.proofs.Common.{◌∙◌}
 use Rattle.cfs_print.proofs.Passed.{Adds-at, AddsFront-at}
 use Rattle.cfs_print.specs.Pieces.{piece_text}
 use Rattle.cfs_print.proofs.output.put_all.Goals as goal
@@ -7,7 +7,7 @@ use Rattle.cfs_print.proofs.output.put_all.Goals as goal
 pub loop-piece-preserved : goal.loop-piece-preserved
 loop-piece-preserved g c = record {
   written = Adds-at piece_text c.args.pieces.now c.loop-piece.piece-index _ _ _ _ _ _ _ c.loop-piece-test.true c.loop-piece.invariant.written c.in_ok-put_piece.ensures.ok;
-  later = omega (arith, c.loop-piece.invariant.later, c.in_ok-put_piece.ensures.cause.later);
+  same = c.in_ok-put_piece.ensures.cause.same ∙ c.loop-piece.invariant.same;
 }
 
 -- the parts before this one and a front of it are a front

@@ -1,4 +1,4 @@
-use Rattle.std.proofs.Common.{arith, ap, sym, ◌∙◌}
+use Rattle.std.proofs.Common.{ap, sym, ◌∙◌, refl}
 use Rattle.std.specs.List.{flat_map}
 use Rattle.cfs_print.specs.Trees.{row_line, rows_of}
 use Rattle.cfs_print.proofs.Walked.{WrittenUpTo-start, WrittenUpTo-step, WrittenUpTo-front}
@@ -8,7 +8,7 @@ use Rattle.cfs_print.proofs.tree.put_rows.Goals as goal
 pub loop-name-preserved : goal.loop-name-preserved
 loop-name-preserved g c = record {
   written = WrittenUpTo-step (row_line c.args.tree.now c.args.dir) _ _ _ _ _ _ _ _ _ _ c.in-Some.ensures.steps c.loop-name.invariant.written c.in_ok-put_row.ensures.ok;
-  later = omega (arith, c.in_ok-put_row.ensures.cause.later);
+  same = c.in_ok-put_row.ensures.cause.same ∙ c.loop-name.invariant.same;
 }
 
 -- the parts before this one and a front of it
@@ -20,5 +20,5 @@ returns-in_err-put_row-clause-front g c = WrittenUpTo-front (row_line c.args.tre
 pub loop-name-init : goal.loop-name-init
 loop-name-init g c = record {
   written = WrittenUpTo-start _ _ _ _ (sym (ap (flat_map (row_line c.args.tree.now c.args.dir)) (c.into_iter-name-iterator.ensures.into_iter_gives ∙ c.iter-name-items.ensures.rest)));
-  later = omega arith;
+  same = refl;
 }

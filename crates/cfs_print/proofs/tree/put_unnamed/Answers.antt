@@ -1,4 +1,4 @@
-use Rattle.std.proofs.Common.{arith, ap, sym, ◌∙◌}
+use Rattle.std.proofs.Common.{ap, sym, ◌∙◌, refl}
 use Rattle.std.specs.List.{flat_map}
 use Rattle.cfs_print.specs.Trees.{unnamed_line, unnamed_lines}
 use Rattle.cfs_print.proofs.Walked.{WrittenUpTo-start, WrittenUpTo-step, WrittenUpTo-front}
@@ -8,7 +8,7 @@ use Rattle.cfs_print.proofs.tree.put_unnamed.Goals as goal
 pub loop-file-preserved : goal.loop-file-preserved
 loop-file-preserved g c = record {
   written = WrittenUpTo-step (unnamed_line c.args.tree.now) _ _ _ _ _ _ _ _ _ _ c.in-Some.ensures.steps c.loop-file.invariant.written c.in_ok-put_unnamed_file.ensures.ok;
-  later = omega (arith, c.in_ok-put_unnamed_file.ensures.cause.later);
+  same = c.in_ok-put_unnamed_file.ensures.cause.same ∙ c.loop-file.invariant.same;
 }
 
 -- the parts before this one and a front of it
@@ -20,5 +20,5 @@ returns-in_err-put_unnamed_file-clause-front g c = WrittenUpTo-front (unnamed_li
 pub loop-file-init : goal.loop-file-init
 loop-file-init g c = record {
   written = WrittenUpTo-start _ _ _ _ (sym (ap (flat_map (unnamed_line c.args.tree.now)) (c.into_iter-file-iterator.ensures.into_iter_gives ∙ c.files-file-items.ensures.rest)));
-  later = omega arith;
+  same = refl;
 }
