@@ -67,8 +67,9 @@ impl Core {
         })
     }
 
-    /// Makes the actor's next step. Idle comes exactly where the actor has ended, Full only where the log of its next
-    /// place has 1,048,576 entries. After these and after want of memory the core is as before.
+    /// Makes the next step of the actor, a client of the script. Idle comes exactly where the actor has ended, Full only
+    /// where the log of its next place has 1,048,576 entries. The Err is want of memory. After these the core is as
+    /// before.
     pub fn turn(&mut self, actor: Actor) -> Result<Turned, NoMemory>
         requires { IsTrue (is_member self.old (number_in actor)) }
         ensures stepped { result ≡ Ok Turned.Stepped → world_of self.new ≡ turn (counts_of self.old) (world_of self.old) (number_in actor) }
@@ -88,8 +89,8 @@ impl Core {
         turn_among(&mut self.places, &mut self.clients, &mut self.order, client)
     }
 
-    /// Ends the run: its entries in order, the places, and the calls of the clients. The Err is want of memory alone,
-    /// and hands the core back.
+    /// Ends the run: its entries in order, the places, and the calls of the clients. The Err is want of memory, and hands
+    /// the core back.
     pub fn finish(mut self) -> Result<Run, Core>
         ensures run { IfOk result (λ run. IsRunOf (members_of self) (world_of self) run) }
         ensures places { IfOk result (λ run. held run.places ≡ held_of self) }

@@ -43,8 +43,8 @@ fn repeat(core: &mut Core, actor: Actor, count: u32) -> Result<Driven, NoMemory>
     Ok(Driven::Done)
 }
 
-/// Makes the listed turns, each turn of an actor that has ended without effect, up to the first whose place has a full
-/// log. On Full and on want of memory the core is that of the turns before.
+/// Makes the listed turns of clients of the core, each turn of a client that has ended without effect, up to the first
+/// whose place has a full log. The Err is want of memory. On Full and on Err the core is that of the turns before.
 pub fn drive(core: &mut Core, turns: &TurnList) -> Result<Driven, NoMemory>
     requires { IsTrue (list_all (are_turns_of (members_of core.old)) turns.now) }
     ensures done { result ≡ Ok Driven.Done → world_of core.new ≡ run_of (counts_of core.old) (map number_in (turns_in turns.now)) (world_of core.old) }

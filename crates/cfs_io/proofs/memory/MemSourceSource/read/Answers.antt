@@ -1,4 +1,4 @@
-use Rattle.std.proofs.Common.{ℕ, ap, sym, ◌∙◌, length, drop, take, arith}
+use Rattle.std.proofs.Common.{arith}
 use Rattle.std.proofs.lemmas.List.{length-drop, length-take}
 use Rattle.cfs_io.proofs.memory.MemSourceSource.read.Goals as goal
 
