@@ -2,6 +2,7 @@
 ghost use Rattle.std.specs.Prelude.{◌≡◌, ◌≢◌, ◌≤◌, ◌<◌, ◌^◌, Err, IfOk, IsErrOf};
 ghost use Rattle.cfs_io.specs.Causes.{Rose};
 ghost use Rattle.cfs_io.specs.Input.{ReadsWithin};
+ghost use Rattle.cfs_io.specs.Lines.{HasByte};
 
 use crate::pieces::PIECE;
 use crate::traits::{Failed, Source};
@@ -28,6 +29,7 @@ pub fn read_within<S: Source>(
     ensures bytes { IfOk result (λ v. ReadsWithin most (S.left source.old) (S.left source.new) v.items) }
     ensures later { S.faults source.old ≤ S.faults source.new }
     ensures cause { IsErrOf result ReadError.Failed → Rose (S.faults source.old) (S.faults source.new) }
+    ensures no_memory { IsErrOf result ReadError.NoMemory → HasByte (S.left source.old) }
     ensures no_fault { result ≢ Err ReadError.Failed → S.faults source.new ≡ S.faults source.old }
 {
     let mut bytes = Vec::new(alloc);

@@ -1,5 +1,5 @@
 //! A set of nodes.
-ghost use Rattle.std.specs.Prelude.{◌≡◌, ◌==◌, OnOk, OnErr, ◌||◌, false, is_some};
+ghost use Rattle.std.specs.Prelude.{◌≡◌, ◌==◌, OnOk, OnErr, IsOk, ◌||◌, true, false, is_some};
 ghost use Rattle.std.specs.FinMap as map;
 ghost use Rattle.cfs_ids.specs.Namespace.{is_node};
 
@@ -18,6 +18,7 @@ pub struct NodeSet {
 fn enter(numbers: &mut NumberMap<()>, number: u64) -> Result<(), NoMemory>
     ensures ok { OnOk result ((k : _) → is_some (map.get numbers.new k) ≡ (is_some (map.get numbers.old k) || number == k)) }
     ensures err { OnErr result (numbers.new ≡ numbers.old) }
+    ensures there { is_some (map.get numbers.old number) ≡ true → IsOk result }
 {
     match numbers.set(number, ()) {
         Ok(_) => Ok(()),
@@ -38,10 +39,11 @@ impl NodeSet {
         }
     }
 
-    /// Adds the node. The Err is want of memory.
+    /// Adds the node. The Err is want of memory, and doesn't come where the node is there.
     pub fn add(&mut self, node: Node) -> Result<(), NoMemory>
         ensures ok { OnOk result ((x : _) → has_node self.new x ≡ (has_node self.old x || is_node x node)) }
         ensures err { OnErr result (self.new ≡ self.old) }
+        ensures there { has_node self.old node ≡ true → IsOk result }
     {
         match node {
             Node::File(file) => enter(&mut self.files, file.0),

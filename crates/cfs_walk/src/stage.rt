@@ -100,6 +100,7 @@ impl Stage {
         ensures ok { OnOk result (from_stage more self.new ≡ heard_in (from_stage more self.old) reply.now) }
         ensures err { OnErr result (self.new ≡ self.old) }
         ensures sure { reply_in (heard_in (from_stage more self.old) reply.now) ≡ None → IsOk result }
+        ensures node { (node : _) → reply.now ≡ Reply.Node node → IsOk result }
     {
         let Stage::Makes { left, next, .. } = self else {
             return Ok(());

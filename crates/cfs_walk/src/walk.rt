@@ -130,6 +130,7 @@ impl Walk {
         ensures ok { OnOk result (course_in self.new ≡ heard_in (course_in self.old) reply.now) }
         ensures err { OnErr result (self.new ≡ self.old) }
         ensures sure { reply_in (heard_in (course_in self.old) reply.now) ≡ None → IsOk result }
+        ensures node { (node : _) → reply.now ≡ Reply.Node node → IsOk result }
     {
         self.stage.hear(self.more, reply)
     }
