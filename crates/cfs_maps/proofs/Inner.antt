@@ -7,6 +7,7 @@ use Rattle.std.specs.Cmp.{nat_cmp_total}
 use Rattle.std.specs.Cmp.Lexicographic.{slice_cmp}
 use Rattle.std.specs.FinMap.{get, insert, remove, empty, len, gets, get-empty, same_map, nat_cmp-IsAntisymmetric}
 use Rattle.cfs_ids.specs.Maps.{Names, Numbers}
+use Rattle.cfs_ids.proofs.MapLemmas.{get-insert_here}
 use Rattle.cfs_maps.specs.Nested.{names_of, with_name, without_name}
 
 -- to insert what is there changes nothing
@@ -32,9 +33,6 @@ remove-absent m key none = same_map nat_cmp_total nat_cmp-IsAntisymmetric _ _ (�
 -- there is no name to cut among none
 len-cut_empty : (X : Type 0) (name : List ℕ) → len (remove (empty {K = List ℕ} {X = X} {R = slice_cmp nat_cmp}) name) ≡ 0
 len-cut_empty X name = grind (arith, gets)
-
-pub get-insert_here : {X : Type 0} (m : Numbers X) (key : ℕ) (x : X) → get (insert m key x) key ≡ Some x
-get-insert_here m key x = grind (arith, nat_tests, gets)
 
 module _ {X : Type 0} (m : Numbers (Names X)) (key : ℕ) (name : List ℕ) where
   pub with_name-there : {A E : Type 0} (r : Result A E) (n : Numbers (Names X)) (old new : Names X) (value : X) → Some old ≡ get m key → n ≡ insert m key new → OnOk r (new ≡ insert old name value) → OnOk r (n ≡ with_name m key name value)

@@ -1,4 +1,3 @@
-use Rattle.std.proofs.Common.{◌≡◌}
 use Rattle.cfs_maps.proofs.Entered.{has-insert}
 use Rattle.cfs_maps.proofs.nodes.enter.Goals as goal
 

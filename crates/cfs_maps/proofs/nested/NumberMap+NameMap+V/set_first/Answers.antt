@@ -3,7 +3,8 @@ use Rattle.std.specs.FinMap.{get, get-empty}
 use Rattle.std.specs.Ordering.{nat_cmp}
 use Rattle.std.specs.Cmp.Lexicographic.{slice_cmp}
 use Rattle.cfs_maps.proofs.Seen.{is_lent}
-use Rattle.cfs_maps.proofs.Inner.{get-insert_here, here-empty, with_name-first, unchanged-first}
+use Rattle.cfs_ids.proofs.MapLemmas.{get-insert_here}
+use Rattle.cfs_maps.proofs.Inner.{here-empty, with_name-first, unchanged-first}
 use Rattle.cfs_maps.proofs.nested.NumberMap+NameMap+V.set_first.Goals as goal
 
 pub unwrap-requires : goal.unwrap-requires

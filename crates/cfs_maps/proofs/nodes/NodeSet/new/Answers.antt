@@ -1,11 +1,9 @@
-use Rattle.std.proofs.Common.{◌≡◌, false, ◌∙◌, ap}
+use Rattle.std.proofs.Common.{◌∙◌, ap}
 use Rattle.std.specs.Prelude.{is_some}
 use Rattle.std.specs.Ordering.{nat_cmp}
 use Rattle.std.specs.FinMap.{get, get-empty}
-use Rattle.cfs_ids.specs.declared.ids.Node.{Node}
 use Rattle.cfs_ids.specs.declared.ids.Node.TheVariants.{Dir, File}
 use Rattle.cfs_ids.specs.Maps.{Numbers}
-use Rattle.cfs_maps.specs.NodeSets.{has_node}
 use Rattle.cfs_maps.proofs.nodes.NodeSet.new.Goals as goal
 
 pub returns : goal.returns
