@@ -30,7 +30,7 @@ use Rattle.cfs_view.specs.Held.{Held, serve}
 use Rattle.cfs_core.specs.Reach.{phase_there, current_there}
 
 -- the shard of a directory, and the store of a file
-in_shard : (n : ℕ) → nat_lt (n % 64) 64 ≡ true
+pub in_shard : (n : ℕ) → nat_lt (n % 64) 64 ≡ true
 in_shard n = grind (arith, nat_tests)
 
 not_shard : (n : ℕ) → nat_lt (64 + n % 64) 64 ≡ false

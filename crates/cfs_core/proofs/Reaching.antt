@@ -25,7 +25,7 @@ use Rattle.cfs_rules.specs.Facts.{Unlocked}
 use Rattle.cfs_rules.proofs.Locks.{serve_shard-unlocked}
 use Rattle.cfs_rules.specs.Worlds.{Counts, AreCounts, IsCount, Progress, put_index, with_phase, after_entry, next_ask, asked_next, hears}
 use Rattle.cfs_view.specs.Held.{Held, has_place, serve}
-use Rattle.cfs_core.proofs.Listed.{at_step}
+use Rattle.cfs_core.proofs.Listed.{at_step, in_shard}
 use Rattle.cfs_core.specs.Reach.{dir_there, node_there, reply_there, phase_there, current_there, PlanThere, ProgressThere, RowsThere}
 use Rattle.cfs_core.proofs.Plans.{first-there, rest-there}
 use Rattle.cfs_core.proofs.Truths.{and_left, and_right, both}
@@ -91,9 +91,6 @@ low_part n i low = omega arith
 
 low_part_store : (n i : ℕ) → i < 64 → (64 * n + (64 + i) % 64) % 64 ≡ i
 low_part_store n i low = omega arith
-
-in_shard : (n : ℕ) → nat_lt (n % 64) 64 ≡ true
-in_shard n = grind (arith, nat_tests)
 
 lookup_heard : (counts : Counts) (shard : Shard) (dir : DirId) (name : List ℕ) (s : Stamp) → RowsThere counts shard → (o : Option Row) → get shard.rows (row_key dir name) ≡ o → phase_there counts (heard_as (Asking (Lookup dir name)) s (read_row o)) ≡ true
 lookup_heard counts shard dir name s named None is = refl

@@ -32,7 +32,7 @@ later-known n m s le h = record {
 row_from_insert : (m : Names Row) (d : ℕ) (name : List ℕ) (k : ℕ) (other : List ℕ) (v x : Row) → get (insert m (d ∷ name) v) (k ∷ other) ≡ Some x → (k ≡ d) ⊎ (get m (k ∷ other) ≡ Some x)
 row_from_insert m d name k other v x e = grind (arith, nat_tests, gets)
 
-rec_from_insert : (m : Numbers DirRec) (d k : ℕ) (v x : DirRec) → get (insert m d v) k ≡ Some x → (k ≡ d) ⊎ (get m k ≡ Some x)
+pub rec_from_insert : (m : Numbers DirRec) (d k : ℕ) (v x : DirRec) → get (insert m d v) k ≡ Some x → (k ≡ d) ⊎ (get m k ≡ Some x)
 rec_from_insert m d k v x e = grind (arith, nat_tests, gets)
 
 module _ (n : ℕ) (s : Shard) (h : IsKnown n s) where
@@ -106,10 +106,10 @@ none_made last s at later h name = by_row (get s.rows (made_at at ∷ name)) ref
     by_row None e = refl
     by_row (Some row) e = let low = h.rows (made_at at) name row e in absurd (omega arith)
 
-no_row : (k : List ℕ) (row : Row) → get (empty {X = Row} {R = slice_cmp nat_cmp}) k ≡ Some row → ⊥
+pub no_row : (k : List ℕ) (row : Row) → get (empty {X = Row} {R = slice_cmp nat_cmp}) k ≡ Some row → ⊥
 no_row k row e = let none = get-empty {X = Row} (slice_cmp nat_cmp) k in cc
 
-no_rec : (d : ℕ) (r : DirRec) → get (empty {X = DirRec} {R = nat_cmp}) d ≡ Some r → ⊥
+pub no_rec : (d : ℕ) (r : DirRec) → get (empty {X = DirRec} {R = nat_cmp}) d ≡ Some r → ⊥
 no_rec d r e = let none = get-empty {X = DirRec} nat_cmp d in cc
 
 pub opening-known : (index : ℕ) → IsKnown 0 (opening_part index)

@@ -1,4 +1,4 @@
-use Rattle.cfs_print.proofs.Naming.{has-insert}
+use Rattle.cfs_maps.proofs.Entered.{has-insert}
 use Rattle.cfs_print.proofs.named.NamedFiles.add.Goals as goal
 
 pub returns-in-Ok : goal.returns-in-Ok
