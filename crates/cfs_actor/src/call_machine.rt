@@ -1,5 +1,5 @@
 //! The machine of any call.
-ghost use Rattle.std.specs.Prelude.{◌≡◌, ◌<◌, IsTrue, IfOk, Some, true};
+ghost use Rattle.std.specs.Prelude.{◌≡◌, ◌<◌, IsTrue, IfOk, IsOk, Some, None, true};
 ghost use Rattle.cfs_ids.specs.declared.ids.Client.{Client};
 ghost use Rattle.cfs_steps.specs.Asks.{place_of};
 ghost use Rattle.cfs_steps.specs.Phases.{Phase, Asking, ask_of, has_steps, heard, done_of, is_going, answers};
@@ -47,9 +47,11 @@ impl CallMachine {
         }
     }
 
-    /// The call, where it has made a step and isn't finished, with its first step.
+    /// The call, where it has made a step and isn't finished, with its first step. The Err is want of memory, and comes
+    /// only where there is one.
     pub fn begun(&self) -> Result<Option<(Call, Stamp)>, NoMemory>
-        ensures { IfOk result (λ begun. begun ≡ begun_of (Some (phase_in self.now))) }
+        ensures begun { IfOk result (λ begun. begun ≡ begun_of (Some (phase_in self.now))) }
+        ensures sure { begun_of (Some (phase_in self.now)) ≡ None → IsOk result }
     {
         match self {
             CallMachine::Reader(_) => Ok(None),

@@ -162,12 +162,13 @@ impl ClientState {
         self.ended
     }
 
-    /// The next ask: that of the current call, and End after the last.
+    /// The next ask: that of the current call, and End after the last. The Err is want of memory, which End doesn't take.
     pub fn ask(&self) -> Result<Ask, NoMemory>
         requires settled { IsTrue (is_settled self.now) }
         requires going { (progress_of self.now).ended ≡ false }
         ensures ask { IfOk result (λ ask. Some ask ≡ next_ask (counts_of self.now) (client_of self.now) (progress_of self.now)) }
         ensures going { IsTrue (is_going_now (progress_of self.now).current) }
+        ensures end { (progress_of self.now).current ≡ None → IsOk result }
     {
         match &self.current {
             Some(machine) => machine.ask(self.last),

@@ -1,8 +1,8 @@
 //! What the namespace answers to a call.
-ghost use Rattle.std.specs.Prelude.{◌≡◌, IfOk, IsOk, false};
+ghost use Rattle.std.specs.Prelude.{◌≡◌, [], IfOk, IsOk, false};
 ghost use Rattle.std.specs.Option.{option_map};
 ghost use Rattle.std.specs.FinMap as map;
-ghost use Rattle.cfs_ids.specs.Namespace.{answer, lookup_in, list_of, dir_stat, file_stat, stat_of, create_in, unlinked, is_empty, removed, cut_to, node_at, children_of, links_of, is_listed, IsWhole};
+ghost use Rattle.cfs_ids.specs.Namespace.{answer, lookup_in, list_of, dir_stat, file_stat, stat_of, create_in, unlinked, is_empty, removed, cut_to, node_at, rows_of, children_of, links_of, is_listed, IsWhole};
 ghost use Rattle.cfs_tree.specs.Memory.{takes_memory};
 
 use crate::namespace::Namespace;
@@ -21,11 +21,12 @@ impl Namespace {
     ///   ENOTDIR for a directory onto a file, ENOTEMPTY onto a directory that has names, EINVAL for a directory into
     ///   itself or below.
     ///
-    /// The Err is want of memory, which a list alone takes.
+    /// The Err is want of memory, which a list alone takes, and that one where there are names to list.
     pub fn answer(&self, alloc: Global, call: &Call) -> Result<Reply, NoMemory>
         requires { IsWhole self.now }
         ensures reply { IfOk result (λ reply. reply ≡ answer self.now call.now) }
         ensures sure { takes_memory call.now ≡ false → IsOk result }
+        ensures empty_list { (dir : DirId) → call.now ≡ Call.List dir → rows_of (map.get self.now.dirs dir.0) ≡ [] → IsOk result }
     {
         match call {
             Call::Lookup { dir, name } => Ok(self.answer_lookup(*dir, name)),
@@ -60,7 +61,8 @@ impl Namespace {
     }
 
     fn answer_list(&self, alloc: Global, dir: DirId) -> Result<Reply, NoMemory>
-        ensures { IfOk result (λ reply. reply ≡ list_of (map.get self.now.dirs dir.0)) }
+        ensures reply { IfOk result (λ reply. reply ≡ list_of (map.get self.now.dirs dir.0)) }
+        ensures sure { rows_of (map.get self.now.dirs dir.0) ≡ [] → IsOk result }
     {
         match self.dirs.get(dir.0) {
             Some(directory) => Ok(Reply::Rows(directory.rows(alloc)?)),

@@ -1,5 +1,5 @@
 //! A directory of the namespace.
-ghost use Rattle.std.specs.Prelude.{◌≡◌, ℕ, List, OnOk, OnErr, IfOk, IsOk, IsSome, IsTrue, ◌↔◌, ◌^◌, ◌<◌, max};
+ghost use Rattle.std.specs.Prelude.{◌≡◌, ℕ, List, [], OnOk, OnErr, IfOk, IsOk, IsSome, IsTrue, ◌↔◌, ◌^◌, ◌<◌, max};
 ghost use Rattle.std.specs.Option.{option_copied, option_map};
 ghost use Rattle.std.specs.Map.Iter.{ShowsInOrder, deref_pair};
 ghost use Rattle.std.specs.FinMap as map;
@@ -95,9 +95,10 @@ impl Directory {
         names_it(&self.names, node)
     }
 
-    /// The rows, by rising names. The Err is want of memory.
+    /// The rows, by rising names. The Err is want of memory, and comes only where there are some.
     pub fn rows(&self, alloc: Global) -> Result<RowList, NoMemory>
-        ensures { IfOk result (λ rows. rows ≡ map.entries self.now.names) }
+        ensures rows { IfOk result (λ rows. rows ≡ map.entries self.now.names) }
+        ensures sure { map.entries self.now.names ≡ [] → IsOk result }
     {
         list_of(alloc, &self.names)
     }

@@ -1,5 +1,5 @@
 //! What the names of a directory say.
-ghost use Rattle.std.specs.Prelude.{◌≡◌, IfOk, ◌^◌, ◌<◌};
+ghost use Rattle.std.specs.Prelude.{◌≡◌, IfOk, IsOk, [], ◌^◌, ◌<◌};
 ghost use Rattle.std.specs.List.{list_any};
 ghost use Rattle.std.specs.FinMap as map;
 ghost use Rattle.cfs_ids.specs.Maps.{how_many};
@@ -13,7 +13,8 @@ use std::alloc::Global;
 
 // The rows, by rising names.
 pub(crate) fn list_of(alloc: Global, names: &NameMap<Node>) -> Result<RowList, NoMemory>
-    ensures { IfOk result (λ rows. rows ≡ map.entries names.now) }
+    ensures rows { IfOk result (λ rows. rows ≡ map.entries names.now) }
+    ensures sure { map.entries names.now ≡ [] → IsOk result }
 {
     let mut rows = RowList::new(alloc);
     for (name, node) in names.iter() {

@@ -1,5 +1,5 @@
 //! The machine of a writing call.
-ghost use Rattle.std.specs.Prelude.{◌≡◌, ◌<◌, ◌+◌, ℕ, IsTrue, IfOk, OnOk, OnErr, IsNone, Some, None};
+ghost use Rattle.std.specs.Prelude.{◌≡◌, ◌<◌, ◌+◌, ℕ, IsTrue, IfOk, IsOk, OnOk, OnErr, IsNone, Some, None};
 ghost use Rattle.cfs_steps.specs.Asks.{place_of, home_of};
 ghost use Rattle.cfs_steps.specs.Phases.{Asking, Finished, maker, replied, moved as moved_phase, heard_insert, answers_insert, is_going, first_ask, ask_of, heard_as, answers, heard, done_of};
 ghost use Rattle.cfs_rules.specs.Worlds.{begun_of};
@@ -37,9 +37,11 @@ impl Writer {
         }
     }
 
-    /// The call, where it has made a step and isn't finished, with its first step.
+    /// The call, where it has made a step and isn't finished, with its first step. The Err is want of memory, and comes
+    /// only where there is one.
     pub fn begun(&self) -> Result<Option<(Call, Stamp)>, NoMemory>
-        ensures { IfOk result (λ begun. begun ≡ begun_of (Some (phase_in self.now))) }
+        ensures begun { IfOk result (λ begun. begun ≡ begun_of (Some (phase_in self.now))) }
+        ensures sure { begun_of (Some (phase_in self.now)) ≡ None → IsOk result }
     {
         match &self.state {
             WriterState::Asking(_) | WriterState::Finished(_) => Ok(None),
