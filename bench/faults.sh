@@ -41,6 +41,15 @@ expect 'output into a closed pipe' "$(cat "$work/status")" "$(cat "$work/line")"
 expect 'input that is a folder' $? "$(cat "$work/line")" 4 'cfs: reading failed'
 [ ! -s "$work/out" ] || wrong 'input that is a folder: something was written'
 
+# Words that are not expected: none at all, another first word, and one behind `replay`.
+"$program" <"$example.cfs" >"$work/out" 2>"$work/line"
+expect 'no words' $? "$(cat "$work/line")" 2 'cfs: word 0 is not expected'
+"$program" reply <"$example.cfs" >>"$work/out" 2>"$work/line"
+expect 'another first word' $? "$(cat "$work/line")" 2 'cfs: word 0 is not expected'
+"$program" replay again <"$example.cfs" >>"$work/out" 2>"$work/line"
+expect 'a word too many' $? "$(cat "$work/line")" 2 'cfs: word 1 is not expected'
+[ ! -s "$work/out" ] || wrong 'words that are not expected: something was written'
+
 # Each allocation fails once, in a run of its own: there is no memory and no text, or the text is as ever.
 # (rt try --fail-alloc takes one number and compiles anew for each, so a preloaded library does it here.)
 ${CC:-cc} -O2 -shared -fPIC -o "$work/fail_malloc.so" "$here/bench/fail_malloc.c" || exit 1
