@@ -1,6 +1,7 @@
 -- An entry with an answer for the current call may be kept.
-use Rattle.std.proofs.Common.{◌≡◌, ℕ, Bool, true, false, refl, arith}
-use Rattle.std.specs.Prelude.{not, ◌==◌, ◌||◌, ◌&&◌, Option, Some, None, is_none, is_some}
+use Rattle.std.proofs.Common.{◌≡◌, ℕ, Bool, true, arith}
+use Rattle.std.specs.Prelude.{not, ◌==◌, ◌&&◌, Option, Some, None, is_none, is_some}
+use Rattle.std.proofs.lemmas.Bool.{or_right}
 use Rattle.std.proofs.lemmas.Bool.Decides.{nat_tests}
 use Rattle.cfs_steps.specs.Phases.{is_going, answers}
 use Rattle.cfs_steps.specs.declared.answer.Answer.{Answer}
@@ -10,13 +11,9 @@ use Rattle.cfs_actor.specs.declared.call_machine.CallMachine.{CallMachine}
 use Rattle.cfs_actor.specs.CallMachines.{phase_in}
 use Rattle.cfs_actor.specs.States.{current_in, fits, answers_now, with_kept}
 
-or_true : (a b : Bool) → b ≡ true → (a || b) ≡ true
-or_true true b h = refl
-or_true false b h = h
-
 pub fits-heard : (kept : KeptEntry) (current : Option CallMachine) (plan : Plan) → is_some current ≡ true → answers_now (current_in current plan) kept.entry.answer ≡ true → fits (Some kept) current ≡ true
 fits-heard kept None plan some h = cc
-fits-heard kept (Some machine) plan some h = or_true (not (is_going (phase_in machine))) (answers (phase_in machine) kept.entry.answer) h
+fits-heard kept (Some machine) plan some h = or_right (not (is_going (phase_in machine))) (answers (phase_in machine) kept.entry.answer) h
 
 pub same-number : (n : ℕ) → (n == n) ≡ true
 same-number n = grind (arith, nat_tests)

@@ -1,6 +1,6 @@
 -- Courses that ask in the root and in directories that look-ups told of.
-use Rattle.std.proofs.Common.{◌≡◌, ℕ, suc, zero, List, [], ◌∷◌, Bool, true, false, ◌==◌, refl, arith, ap, ◌∙◌, if◌then◌else◌}
-use Rattle.std.specs.Prelude.{◌||◌}
+use Rattle.std.proofs.Common.{◌≡◌, ℕ, suc, zero, List, [], ◌∷◌, true, ◌==◌, refl, arith, ap, ◌∙◌, if◌then◌else◌}
+use Rattle.std.proofs.lemmas.Bool.{or_right}
 use Rattle.std.proofs.lemmas.Bool.Decides.{nat_tests}
 use Rattle.cfs_ids.specs.declared.ids.DirId.{DirId}
 use Rattle.cfs_ids.specs.declared.ids.Node.TheVariants.{Dir, File}
@@ -19,10 +19,6 @@ Keeps dirs (Makes call next) = MayAsk dirs call × ((reply : Reply) → Keeps (w
 Keeps dirs (Answered reply) = Unit {0}
 
 -- ---- what is known stays known, and what is told is known
-or_right : (a b : Bool) → b ≡ true → (a || b) ≡ true
-or_right true b h = refl
-or_right false b h = h
-
 knows-told : (dirs : List ℕ) (dir : ℕ) (reply : Reply) → knows dirs dir ≡ true → knows (with_told reply dirs) dir ≡ true
 knows-told dirs dir (Node (Dir told)) h = or_right (told.0 == dir) (knows dirs dir) h
 knows-told dirs dir reply h = h

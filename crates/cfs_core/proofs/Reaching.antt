@@ -1,5 +1,6 @@
 -- What a client asks next is there, and so is what it asks after the answer.
 use Rattle.std.proofs.Common.{◌≡◌, ℕ, ◌+◌, ◌*◌, ◌%◌, ◌<◌, List, Bool, true, false, refl, sym, subst, arith}
+use Rattle.std.proofs.Math.Bool.{or-true}
 use Rattle.std.specs.Prelude.{Option, Some, None, nat_lt, nat_le, ◌&&◌, ◌||◌}
 use Rattle.std.specs.FinMap.{get}
 use Rattle.std.proofs.lemmas.Bool.Decides.{nat_tests}
@@ -34,15 +35,11 @@ use Rattle.cfs_core.proofs.Truths.{and_left, and_right, both}
 shard_there : (counts : Counts) (n : ℕ) → nat_lt n counts.shards ≡ true → has_place counts n ≡ true
 shard_there counts n h = rw h refl
 
-or_true : (a : Bool) → (a || true) ≡ true
-or_true true = refl
-or_true false = refl
-
 store_there : (counts : Counts) (n : ℕ) → nat_lt n counts.stores ≡ true → has_place counts (64 + n) ≡ true
 store_there counts n h =
     let low : nat_le 64 (64 + n) ≡ true = grind (arith, nat_tests) in
     let high : nat_lt (64 + n) (64 + counts.stores) ≡ true = grind (arith, nat_tests, h) in
-    rw (low, high) (or_true (nat_lt (64 + n) counts.shards))
+    rw (low, high) (or-true (nat_lt (64 + n) counts.shards))
 
 roster_there : (counts : Counts) → has_place counts 129 ≡ true
 roster_there counts = by_test (nat_lt 129 counts.shards) (nat_lt 129 (64 + counts.stores))

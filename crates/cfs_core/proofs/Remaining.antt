@@ -42,11 +42,6 @@ get_or-set (y ∷ xs) (suc i) x (suc j) lt = get_or-set xs i x j (omega arith) �
     same_test true t = grind (arith, nat_tests)
     same_test false t = grind (arith, nat_tests)
 
-pub length-set : (xs : List ℕ) (i x : ℕ) → length (set xs i x) ≡ length xs
-length-set [] i x = refl
-length-set (y ∷ xs) zero x = refl
-length-set (y ∷ xs) (suc i) x = ap suc (length-set xs i x)
-
 -- the counts so far are those of the places with these numbers
 pub record AreCounted (ps : List Place) (counts : List ℕ) (end : ℕ) : Type 0 where
   pub size : length counts ≡ end

@@ -6,7 +6,7 @@ ghost use Rattle.cfs_grammar.specs.Words.{words, only, pair};
 ghost use Rattle.cfs_grammar.specs.Numbers.{client_of};
 ghost use Rattle.cfs_grammar.specs.Orders.{verb_of, may_be_root, on_path, path_said, truncate_said, rename_said, command_said, ordered, order_said};
 ghost use Rattle.cfs_grammar.specs.Paths.{path_of, place_of};
-ghost use Rattle.cfs_grammar.specs.Outcomes.{Gives};
+ghost use Rattle.cfs_grammar.specs.Outcomes.{GivesCommand};
 
 use crate::fault::{Fault, Refusal};
 use crate::numbers::{read_client, read_size};
@@ -56,9 +56,7 @@ fn read_operand(alloc: Global, verb: PathVerb, text: &[u8]) -> Result<Option<Pat
 }
 
 fn read_one_path(alloc: Global, verb: PathVerb, rest: &[u8]) -> Result<Command, Refusal>
-    ensures said { Gives result (path_said verb (only (words rest.now))) }
-    ensures bad_command { path_said verb (only (words rest.now)) ≡ Err BadCommand → result ≡ Err (Refusal.Fault BadCommand) }
-    ensures bad_number { path_said verb (only (words rest.now)) ≡ Err BadNumber → result ≡ Err (Refusal.Fault BadNumber) }
+    ensures { GivesCommand result (path_said verb (only (words rest.now))) }
 {
     let Some(text) = only_word(rest) else {
         return Err(Refusal::Fault(Fault::BadCommand));
@@ -70,9 +68,7 @@ fn read_one_path(alloc: Global, verb: PathVerb, rest: &[u8]) -> Result<Command, 
 }
 
 fn read_truncate(alloc: Global, rest: &[u8]) -> Result<Command, Refusal>
-    ensures said { Gives result (truncate_said (pair (words rest.now))) }
-    ensures bad_command { truncate_said (pair (words rest.now)) ≡ Err BadCommand → result ≡ Err (Refusal.Fault BadCommand) }
-    ensures bad_number { truncate_said (pair (words rest.now)) ≡ Err BadNumber → result ≡ Err (Refusal.Fault BadNumber) }
+    ensures { GivesCommand result (truncate_said (pair (words rest.now))) }
 {
     let Some((path, size)) = two_words(rest) else {
         return Err(Refusal::Fault(Fault::BadCommand));
@@ -87,9 +83,7 @@ fn read_truncate(alloc: Global, rest: &[u8]) -> Result<Command, Refusal>
 }
 
 fn read_rename(alloc: Global, rest: &[u8]) -> Result<Command, Refusal>
-    ensures said { Gives result (rename_said (pair (words rest.now))) }
-    ensures bad_command { rename_said (pair (words rest.now)) ≡ Err BadCommand → result ≡ Err (Refusal.Fault BadCommand) }
-    ensures bad_number { rename_said (pair (words rest.now)) ≡ Err BadNumber → result ≡ Err (Refusal.Fault BadNumber) }
+    ensures { GivesCommand result (rename_said (pair (words rest.now))) }
 {
     let Some((path, to)) = two_words(rest) else {
         return Err(Refusal::Fault(Fault::BadCommand));
@@ -104,9 +98,7 @@ fn read_rename(alloc: Global, rest: &[u8]) -> Result<Command, Refusal>
 }
 
 fn read_command(alloc: Global, word: &[u8], rest: &[u8]) -> Result<Command, Refusal>
-    ensures said { Gives result (command_said (verb_of word.now) (words rest.now)) }
-    ensures bad_command { command_said (verb_of word.now) (words rest.now) ≡ Err BadCommand → result ≡ Err (Refusal.Fault BadCommand) }
-    ensures bad_number { command_said (verb_of word.now) (words rest.now) ≡ Err BadNumber → result ≡ Err (Refusal.Fault BadNumber) }
+    ensures { GivesCommand result (command_said (verb_of word.now) (words rest.now)) }
 {
     match read_verb(word) {
         Some(Verb::OnPath(verb)) => read_one_path(alloc, verb, rest),
@@ -144,9 +136,7 @@ fn nobodys_fault(word: &[u8], rest: &[u8]) -> Fault
 /// take no memory. The command is in form.
 #[tactic(auto, unfolding(crate::specs::Orders::order_said))]
 pub fn read_order(alloc: Global, text: &[u8]) -> Result<Order, Refusal>
-    ensures said { Gives result (order_said (words text.now)) }
-    ensures bad_command { order_said (words text.now) ≡ Err BadCommand → result ≡ Err (Refusal.Fault BadCommand) }
-    ensures bad_number { order_said (words text.now) ≡ Err BadNumber → result ≡ Err (Refusal.Fault BadNumber) }
+    ensures said { GivesCommand result (order_said (words text.now)) }
     ensures in_form { IfOk result (λ order. IsTrue (is_in_form order.command)) }
     ensures low { IfOk result (λ order. 0 < order.client.0) }
     ensures high { IfOk result (λ order. order.client.0 ≤ 32) }

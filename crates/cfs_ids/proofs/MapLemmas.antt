@@ -1,5 +1,5 @@
 -- Facts about finite maps and their entries, for the laws of worlds.
-use Rattle.std.proofs.Common.{◌≡◌, ℕ, ◌+◌, List, [], ◌∷◌, map, Bool, cond, refl, sym, ◌∙◌, ap, arith}
+use Rattle.std.proofs.Common.{◌≡◌, ℕ, ◌+◌, ◌-◌, ◌≤◌, List, [], ◌∷◌, map, Bool, true, false, cond, refl, sym, ◌∙◌, ap, arith}
 use Rattle.std.specs.Prelude.{◌||◌, Some, None}
 use Rattle.std.proofs.lemmas.Bool.Decides.{nat_tests}
 use Rattle.std.specs.Option.{option_map}
@@ -7,9 +7,9 @@ use Rattle.std.specs.List.{list_any}
 use Rattle.std.specs.declared.cmp.Ordering.{Ordering}
 use Rattle.std.specs.declared.cmp.Ordering.TheVariants.{Equal}
 use Rattle.std.specs.Ordering.{nat_cmp}
-use Rattle.std.specs.Cmp.{IsTotalOrder}
+use Rattle.std.specs.Cmp.{IsTotalOrder, nat_cmp_total}
 use Rattle.std.specs.Cmp.Lexicographic.{slice_cmp}
-use Rattle.std.specs.FinMap.{FinMap, get, insert, entries, find, put, gets, get-entries, get-from_entries}
+use Rattle.std.specs.FinMap.{FinMap, get, insert, remove, len, contains_key, entries, find, put, gets, get-entries, get-from_entries, len-insert, len-remove}
 use Rattle.cfs_ids.specs.Maps.{Numbers, within, how_many, map_values}
 
 module _ {K X : Type 0} (R : K → K → Ordering) where
@@ -44,3 +44,18 @@ get-map_values {R = R} o same f m q = get-from_entries o (map (λ e. (e.0, f e.0
 -- what is inserted at a key is found there
 pub get-insert_here : {X : Type 0} (m : Numbers X) (key : ℕ) (x : X) → get (insert m key x) key ≡ Some x
 get-insert_here m key x = grind (arith, nat_tests, gets)
+
+-- a map has one entry more at most once a key is set or cut
+pub set-few : {X : Type 0} (m : Numbers X) (key : ℕ) (x : X) → len (insert m key x) ≤ len m + 1
+set-few m key x = let e = len-insert nat_cmp_total m key x in let le = at_most (contains_key m key) (len m) in omega arith
+  where
+    at_most : (b : Bool) (n : ℕ) → cond b n (n + 1) ≤ n + 1
+    at_most true n = omega arith
+    at_most false n = omega arith
+
+pub cut-few : {X : Type 0} (m : Numbers X) (key : ℕ) → len (remove m key) ≤ len m + 1
+cut-few m key = let e = len-remove nat_cmp_total m key in let le = at_most (contains_key m key) (len m) in omega arith
+  where
+    at_most : (b : Bool) (n : ℕ) → cond b (n - 1) n ≤ n + 1
+    at_most true n = omega arith
+    at_most false n = omega arith

@@ -2,8 +2,8 @@
 ghost use Rattle.std.specs.Prelude.{◌≡◌, ◌≤◌, ◌<◌, ◌-◌, ◌↔◌, ◌||◌, ◌==◌, if◌then◌else◌, min, Some, None, [], drop, length, vec_len, vec_capacity, IfOk, IsErr, IsTrue};
 ghost use Rattle.std.specs.Io.{ReadsAtMost};
 ghost use Rattle.std.specs.Io.KnownBytes.{ReadConsumes, WriteAppends};
-ghost use Rattle.cfs_io.specs.Causes.{HasCause, TakesSome};
-ghost use Rattle.cfs_io.specs.Memory.{is_told, one_more};
+ghost use Rattle.cfs_io.specs.Causes.{HasCause, TakesSome, one_more};
+ghost use Rattle.cfs_io.specs.Memory.{is_told};
 
 use crate::pieces::move_piece;
 use crate::traits::{Failed, Sink, Source};

@@ -17,7 +17,7 @@ pub trait Source {
     // How often it has failed. At the greatest u64 the count can't rise.
     ghost faults: { Self → ℕ };
 
-    /// Moves the first bytes that are left into `buf`, which has room for one, and says how many. `Ok(0)` is the end of
+    /// Moves the first bytes that are left into `buf`, which isn't empty, and says how many. `Ok(0)` is the end of
     /// input. `Failed` comes where the device failed: nothing was moved, and the count of faults rose, or stands at the
     /// greatest u64. With any other answer the count stays.
     fn read(&mut self, buf: &mut [u8]) -> Result<usize, Failed>
@@ -35,9 +35,9 @@ pub trait Sink {
     // How often it has failed. At the greatest u64 the count can't rise.
     ghost faults: { Self → ℕ };
 
-    /// Takes a front of the bytes, of which there is one, at least one byte, and says how many. `Failed` comes where the
-    /// device failed or has no room: nothing was taken, and the count of faults rose, or stands at the greatest u64. With
-    /// any other answer the count stays.
+    /// Takes a front of `bytes`, which isn't empty: at least one byte. It says how many. `Failed` comes where the device
+    /// failed or has no room: nothing was taken, and the count of faults rose, or stands at the greatest u64. With any
+    /// other answer the count stays.
     fn write(&mut self, bytes: &[u8]) -> Result<usize, Failed>
         requires { 0 < length bytes.now }
         ensures some { TakesSome result bytes.now }

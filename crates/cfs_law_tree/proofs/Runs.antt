@@ -1,7 +1,7 @@
 -- Runs, turn by turn.
 use Rattle.std.proofs.Common.{◌≡◌, ℕ, suc, zero, ◌+◌, ◌<◌, List, [], ◌∷◌, ◌++◌, Bool, true, refl, sym, ap, ◌∙◌, subst, map, take, arith, Ok, Some, Result}
 use Rattle.std.specs.Prelude.{replicate, slice_get}
-use Rattle.std.proofs.lemmas.List.{replicate_more, map-append, take-map, length-map, length-replicate}
+use Rattle.std.proofs.lemmas.List.{replicate_more, map-append, take-map, length-map, length-replicate, take-replicate}
 use Rattle.cfs_ids.specs.declared.ids.Actor.{Actor}
 use Rattle.cfs_ids.specs.declared.ids.PlaceNo.{PlaceNo}
 use Rattle.cfs_ids.specs.declared.memory.NoMemory.{NoMemory}
@@ -47,12 +47,6 @@ pub run-more : (counts : Counts) (actor : Actor) (made : ℕ) (w : World) → ru
 run-more counts actor made w = ap (λ (turns : List ℕ). run_of counts turns w) (ap (map number_in) (sym (replicate_more made actor)) ∙ map-append number_in (replicate made actor) (actor ∷ []))
     ∙ run-append counts (map number_in (replicate made actor)) (number_in actor ∷ []) w
 
-pub take-replicate : (made count : ℕ) (actor : Actor) → made < count → take made (replicate count actor) ≡ replicate made actor
-take-replicate zero zero actor lt = refl
-take-replicate zero (suc count) actor lt = refl
-take-replicate (suc made) zero actor lt = absurd (omega arith)
-take-replicate (suc made) (suc count) actor lt = ap (λ ts. actor ∷ ts) (take-replicate made count actor (omega arith))
-
 pub get-replicate : (made count : ℕ) (actor : Actor) → made < count → Some actor ≡ slice_get (replicate count actor) made
 get-replicate made zero actor lt = absurd (omega arith)
 get-replicate zero (suc count) actor lt = refl
@@ -63,7 +57,7 @@ abbrev pub stops : (counts : Counts) (actor : Actor) (count made : ℕ) (before 
 stops counts actor count made before after lt e = record {
   made = made;
   early = let all = length-map (replicate count actor) number_in in let each = length-replicate count actor in omega (arith, all, each, lt);
-  so_far = e ∙ ap (λ (turns : List ℕ). run_of counts turns before) (ap (map number_in) (sym (take-replicate made count actor lt)) ∙ sym (take-map number_in made (replicate count actor)));
+  so_far = e ∙ ap (λ (turns : List ℕ). run_of counts turns before) (ap (map number_in) (sym (take-replicate made count actor (omega (arith, lt)))) ∙ sym (take-map number_in made (replicate count actor)));
 }
 
 -- of one core to the next, where only what was asked of it has changed

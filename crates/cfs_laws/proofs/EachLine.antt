@@ -1,7 +1,8 @@
 -- No line is lost where lines are put in order, and none is made.
-use Rattle.std.proofs.Common.{◌≡◌, ℕ, zero, suc, ◌+◌, ◌≤◌, List, [], ◌∷◌, ◌++◌, map, length, Bool, true, false, cond, refl, ap, ◌∙◌, arith}
+use Rattle.std.proofs.Common.{◌≡◌, ℕ, zero, suc, ◌+◌, ◌≤◌, List, [], ◌∷◌, ◌++◌, map, length, Bool, true, false, cond, refl, sym, ap, ◌∙◌, arith}
 use Rattle.std.specs.Prelude.{if◌then◌else◌, ◌==◌, ◌&&◌, not, is_none, nat_le, nat_lt, Option, Some, None}
 use Rattle.std.specs.List.{filter}
+use Rattle.std.proofs.Math.Bool.{and-true}
 use Rattle.std.proofs.lemmas.Bool.Decides.{nat_tests}
 use Rattle.cfs_ids.specs.Maps.{how_many}
 use Rattle.cfs_ids.specs.declared.ids.Client.{Client}
@@ -42,11 +43,7 @@ module _ {X : Type 0} (p : X → Bool) where
   count-filter q x xs = step (q x) (p x) refl
     where
       step : (a b : Bool) → p x ≡ b → how_many p (cond a (x ∷ filter q xs) (filter q xs)) ≡ how_many p (filter q xs) + cond (b && a) 1 0
-      step true b e = count-one x (filter q xs) ∙ ap (λ (c : Bool). how_many p (filter q xs) + cond c 1 0) (e ∙ and-true b)
-        where
-          and-true : (c : Bool) → c ≡ (c && true)
-          and-true true = refl
-          and-true false = refl
+      step true b e = count-one x (filter q xs) ∙ ap (λ (c : Bool). how_many p (filter q xs) + cond c 1 0) (e ∙ sym (and-true b))
       step false true e = omega arith
       step false false e = omega arith
 

@@ -1,5 +1,6 @@
 -- The lines in order stand in the order of a history, the calls of each client follow one another, and no two moves stand at one position.
 use Rattle.std.proofs.Common.{◌≡◌, ◌≢◌, ℕ, ◌<◌, List, Bool, true, false, refl, sym, ◌∙◌, ap, subst, arith, ◌⊎◌, inl, inr}
+use Rattle.std.proofs.lemmas.Bool.{both_ways}
 use Rattle.std.specs.Prelude.{◌&&◌, not, Option, Some, None}
 use Rattle.cfs_steps.specs.declared.line.Line.{Line}
 use Rattle.cfs_steps.specs.declared.line.Outcome.{Outcome}
@@ -104,17 +105,14 @@ module _ (lines : List Line) (placed : Every IsPlaced lines) (order : Pairs InOr
 
   pub moves_apart : (n : ℕ) → Pairs MovesApartLines (ordered n lines)
   moves_apart n = pairs_ordered PlacedInOrder MovesApartLines lines known
-      (λ p x y a b r m k same. not_both (is_move x.outcome) (told_not p x a) m)
-      (λ p x y a b r m k same. not_both (is_move x.outcome) (told_not p x a) m)
+      (λ p x y a b r m k same. both_ways (is_move x.outcome) (told_not p x a) m)
+      (λ p x y a b r m k same. both_ways (is_move x.outcome) (told_not p x a) m)
       (λ p. pairs_few MovesApartLines (moved p) (moved_at p lines) (few p))
       (λ p q x y lt a b r m k same. two_positions p q lt (sym (at_is p x.at a) ∙ same ∙ at_is q y.at b))
       (λ p x y a b r m k same. position_or_none p (sym (at_is p x.at a) ∙ same ∙ none_is y.at b))
-      (λ x y a b r m k same. not_both (is_move x.outcome) (unplaced_move x.outcome x.first x.last (subst (λ at. Positions x.outcome x.first at x.last) (none_is x.at a) r.0)) m)
+      (λ x y a b r m k same. both_ways (is_move x.outcome) (unplaced_move x.outcome x.first x.last (subst (λ at. Positions x.outcome x.first at x.last) (none_is x.at a) r.0)) m)
       n
     where
-      not_both : (b : Bool) → b ≡ false → b ≡ true → ⊥
-      not_both b h k = cc
-
       two_positions : (p q : ℕ) → p < q → Some p ≡ Some q → ⊥
       two_positions p q lt same = let at : p ≡ q = cc in omega arith
 

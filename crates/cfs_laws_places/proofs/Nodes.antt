@@ -1,5 +1,6 @@
 -- Nodes by their names, and the directories that no row lies in.
 use Rattle.std.proofs.Common.{◌≡◌, ◌≢◌, ℕ, List, [], ◌∷◌, Bool, true, false, cond, refl, sym, ◌∙◌, ap, arith, ◌⊎◌, inl, inr}
+use Rattle.std.proofs.Math.Bool.{or-true}
 use Rattle.std.specs.Prelude.{◌||◌, ◌==◌, Option, Some, None}
 use Rattle.std.proofs.lemmas.Bool.Decides.{nat_tests}
 use Rattle.std.specs.List.{list_any}
@@ -16,7 +17,6 @@ use Rattle.cfs_rules.specs.Places.{Shard, Store}
 use Rattle.cfs_rules.specs.Worlds.{client_of}
 use Rattle.cfs_rules.specs.Trees.{is_shown}
 use Rattle.cfs_laws_places.proofs.Invariant.{is_named_node, owner_at, Owns, PlacesHold}
-use Rattle.cfs_laws_places.proofs.Trees.{or_true}
 
 -- ---- a name stands for one node
 pub names_true : (x y : Node) → is_node x y ≡ true → x ≡ y
@@ -43,7 +43,7 @@ named_in (x ∷ es) k row e = by_test (is_eq (slice_cmp nat_cmp k x.0)) e (named
   where
     by_test : (b : Bool) → cond b (Some x.1) (find (slice_cmp nat_cmp) k es) ≡ Some row → (find (slice_cmp nat_cmp) k es ≡ Some row → list_any (λ e. is_node row.node e.1.node) es ≡ true) → (is_node row.node x.1.node || list_any (λ e. is_node row.node e.1.node) es) ≡ true
     by_test true e rest = let same : x.1 ≡ row = cc in ap (λ (r : Row). is_node row.node r.node || list_any (λ e. is_node row.node e.1.node) es) same ∙ ap (λ b. b || list_any (λ e. is_node row.node e.1.node) es) (names_same row.node)
-    by_test false e rest = ap (λ b. is_node row.node x.1.node || b) (rest e) ∙ or_true (is_node row.node x.1.node)
+    by_test false e rest = ap (λ b. is_node row.node x.1.node || b) (rest e) ∙ or-true (is_node row.node x.1.node)
 
 pub named_of_row : (shard : Shard) (k : List ℕ) (row : Row) → get shard.rows k ≡ Some row → is_named_node shard row.node ≡ true
 named_of_row shard k row there = named_in (entries shard.rows) k row (sym (get-entries shard.rows k) ∙ there)

@@ -1,5 +1,6 @@
 -- What each change of the places does to the namespace that they hold.
 use Rattle.std.proofs.Common.{◌≡◌, ◌≢◌, ℕ, List, ◌∷◌, Bool, true, false, cond, refl, sym, ◌∙◌, ap, arith}
+use Rattle.std.proofs.Math.Bool.{or-true}
 use Rattle.std.specs.Prelude.{◌||◌, ◌==◌, Option, Some, None, max, is_none}
 use Rattle.std.proofs.lemmas.Bool.Decides.{nat_tests}
 use Rattle.std.specs.Option.{option_map}
@@ -146,11 +147,7 @@ dirs-with_dir shard at dir name child ts r store there shown free hidden none ne
 
     now_shown : is_shown (with_row shard at dir name (Dir child) ts r) child.0 ≡ true
     now_shown = let is : (child.0 == child.0) ≡ true = grind (arith, nat_tests) in
-        ap (λ b. (child.0 == 0) || b) (placed-with_row shard at dir name (Dir child) ts r free child.0 ∙ ap (λ b. b || is_placed shard child.0) is) ∙ or_true (child.0 == 0)
-      where
-        or_true : (b : Bool) → (b || true) ≡ true
-        or_true true = refl
-        or_true false = refl
+        ap (λ b. (child.0 == 0) || b) (placed-with_row shard at dir name (Dir child) ts r free child.0 ∙ ap (λ b. b || is_placed shard child.0) is) ∙ or-true (child.0 == 0)
 
     alike : (q : ℕ) → q ≢ child.0 → is_shown (with_row shard at dir name (Dir child) ts r) q ≡ is_shown shard q
     alike q other = let no : (child.0 == q) ≡ false = grind (arith, nat_tests) in
@@ -188,16 +185,12 @@ files-put shard store f v c owner unnamed free = files_alike shard shard store (
     by_test g true t = let same : g ≡ f = grind (arith, nat_tests) in rw (same, get-insert_same store f v, owner, unnamed, free) refl
     by_test g false t = let differ : g ≢ f = grind (arith, nat_tests) in rw (get-insert_other store f g v differ) refl
 
-pub or_true : (b : Bool) → (b || true) ≡ true
-or_true true = refl
-or_true false = refl
-
 -- a named file is settled
 pub files-settle : (shard : Shard) (store : Store) (f : ℕ) (v w : FileRec) → facts_of w ≡ facts_of v → is_named shard f ≡ true → get store f ≡ Some v → (tree shard (insert store f w)).files ≡ (tree shard store).files
 files-settle shard store f v w alike named there = files_alike shard shard store (insert store f w) (λ g. by_test g (g == f) refl)
   where
     by_test : (g : ℕ) (b : Bool) → (g == f) ≡ b → option_map facts_of (cond (is_counted shard (insert store f w) g) (get (insert store f w) g) None) ≡ option_map facts_of (cond (is_counted shard store g) (get store g) None)
-    by_test g true t = let same : g ≡ f = grind (arith, nat_tests) in rw (same, get-insert_same store f w, named, there, or_true (is_none w.owner), or_true (is_none v.owner)) (ap Some alike)
+    by_test g true t = let same : g ≡ f = grind (arith, nat_tests) in rw (same, get-insert_same store f w, named, there, or-true (is_none w.owner), or-true (is_none v.owner)) (ap Some alike)
     by_test g false t = let differ : g ≢ f = grind (arith, nat_tests) in rw (get-insert_other store f g w differ) refl
 
 -- an owned file that no row names goes
@@ -223,7 +216,7 @@ files-with_file shard store at dir name f ts r v there free = same_map nat_cmp_t
     by_test g true t =
         let same : g ≡ f.0 = grind (arith, nat_tests) in
         let named : is_named (with_row shard at dir name (File f) ts r) f.0 ≡ true = naming f.0 ∙ grind (arith, nat_tests) in
-        rw (same, there, named, or_true (is_none v.owner)) (sym (get-insert_same (tree shard store).files f.0 (facts_of v)))
+        rw (same, there, named, or-true (is_none v.owner)) (sym (get-insert_same (tree shard store).files f.0 (facts_of v)))
     by_test g false t =
         let differ : g ≢ f.0 = grind (arith, nat_tests) in
         let named : is_named (with_row shard at dir name (File f) ts r) g ≡ is_named shard g = naming g ∙ grind (arith, nat_tests) in

@@ -1,5 +1,6 @@
 -- Chains of names from directory to directory.
 use Rattle.std.proofs.Common.{◌≡◌, ◌≢◌, ◌⊎◌, inl, inr, ℕ, suc, zero, ◌≤◌, Bool, true, false, List, refl, sym, ◌∙◌, ap, subst, length, arith}
+use Rattle.std.proofs.Math.Bool.{or-true}
 use Rattle.std.specs.Prelude.{◌==◌, ◌||◌, Option, Some, None}
 use Rattle.std.proofs.lemmas.Bool.Decides.{nat_tests}
 use Rattle.std.specs.List.{list_any}
@@ -9,7 +10,7 @@ use Rattle.cfs_ids.specs.declared.ids.Node.{Node}
 use Rattle.cfs_ids.specs.declared.ids.Node.TheVariants.{Dir, File}
 use Rattle.cfs_ids.specs.Maps.{Numbers}
 use Rattle.cfs_ids.specs.Namespace.{Directory, Namespace, node_at, rows_of, of_dir, leads, is_below}
-use Rattle.cfs_laws_whole.proofs.Found.{found-name, passes-name, or_true}
+use Rattle.cfs_laws_whole.proofs.Found.{found-name, passes-name}
 use Rattle.cfs_laws_whole.proofs.Slots.{get-remove_apart, listing-there}
 
 -- the list of directory d has directory c under a name
@@ -120,7 +121,7 @@ pub leads-chain : (n : Namespace) (j k from to : ℕ) → j ≤ k → Chain j n.
 leads-chain n zero zero from to small h = grind (arith, nat_tests)
 leads-chain n zero (suc k) from to small h = let here : (from == to) ≡ true = grind (arith, nat_tests) in rw here refl
 leads-chain n (suc j) zero from to small h = absurd (omega arith)
-leads-chain n (suc j) (suc k) from to small h = rw (goes_on (leads-chain n j k h.0 to (omega arith) h.2) (get n.dirs from) h.1.1) (or_true (from == to))
+leads-chain n (suc j) (suc k) from to small h = rw (goes_on (leads-chain n j k h.0 to (omega arith) h.2) (get n.dirs from) h.1.1) (or-true (from == to))
   where
     goes_on : leads k n h.0 to ≡ true → (o : Option Directory) → node_at o h.1.0 ≡ Some (Dir (record { 0 = h.0 })) → list_any (λ e. of_dir (λ d. leads k n d to) e.1) (rows_of o) ≡ true
     goes_on rest None is = cc

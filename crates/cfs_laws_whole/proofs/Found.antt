@@ -1,5 +1,6 @@
 -- What passes a test among the entries of a map is found in it.
 use Rattle.std.proofs.Common.{◌≡◌, ℕ, List, [], ◌∷◌, Bool, true, false, cond, refl, sym, ◌∙◌, subst}
+use Rattle.std.proofs.Math.Bool.{or-true}
 use Rattle.std.specs.Prelude.{◌||◌, Some, None}
 use Rattle.std.proofs.lemmas.Cmp.{tied_itself}
 use Rattle.std.specs.List.{list_any}
@@ -11,10 +12,6 @@ use Rattle.std.specs.Cmp.Lexicographic.{slice_cmp, nat_list_cmp_total}
 use Rattle.std.specs.FinMap.{FinMap, IsAntisymmetric, get, entries, find, get-entries, nat_cmp-IsAntisymmetric, slice_cmp-IsAntisymmetric}
 use Rattle.cfs_ids.specs.Maps.{Names, Numbers}
 use Rattle.cfs_ids.proofs.Entries.{Distinct, distinct-entries}
-
-pub or_true : (b : Bool) → (b || true) ≡ true
-or_true true = refl
-or_true false = refl
 
 -- a value that passes, with its key
 pub record Found {K X : Type 0} (R : K → K → Ordering) (p : K × X → Bool) (es : List (K × X)) : Type 0 where
@@ -52,8 +49,8 @@ module _ {K X : Type 0} (R : K → K → Ordering) (o : IsTotalOrder R) (same : 
   passes-among p (e ∷ es) k x is passes = by_key (R k e.0) refl is (passes-among p es k x)
     where
       by_key : (r : Ordering) → R k e.0 ≡ r → cond (is_eq r) (Some e.1) (find R k es) ≡ Some x → (find R k es ≡ Some x → p (k, x) ≡ true → list_any p es ≡ true) → (p e || list_any p es) ≡ true
-      by_key Less at is rest = rw (rest is passes) (or_true (p e))
-      by_key Greater at is rest = rw (rest is passes) (or_true (p e))
+      by_key Less at is rest = rw (rest is passes) (or-true (p e))
+      by_key Greater at is rest = rw (rest is passes) (or-true (p e))
       by_key Equal at is rest =
           let value : x ≡ e.1 = cc in
           let here : p e ≡ true = subst (λ q. p (q, e.1) ≡ true) (same k e.0 at) (subst (λ y. p (k, y) ≡ true) value passes) in

@@ -1,5 +1,6 @@
 -- All shards together after one of them has served an ask, and all stores.
 use Rattle.std.proofs.Common.{◌≡◌, ℕ, suc, zero, ◌+◌, ◌<◌, List, [], ◌∷◌, map, length, set, get_or, refl, sym, ◌∙◌, ap, arith}
+use Rattle.std.proofs.lemmas.List.{map-set, length-map}
 use Rattle.std.specs.Cmp.{nat_cmp_total}
 use Rattle.std.specs.Cmp.Lexicographic.{nat_list_cmp_total}
 use Rattle.std.specs.declared.cmp.Ordering.{Ordering}
@@ -9,15 +10,6 @@ use Rattle.cfs_rules.specs.Homes.{home_of_row, home_of_number, gathered, LieFrom
 use Rattle.cfs_rules.proofs.Names.{bytes_apart}
 use Rattle.cfs_rules.proofs.Homes.{get_in, get-gathered, gathered-set}
 use Rattle.cfs_rules.proofs.Gathering.{Agrees, AgreesShard, ServesShard, ServesStore}
-
-map-set : {A B : Type 0} (f : A → B) (xs : List A) (i : ℕ) (x : A) → map f (set xs i x) ≡ set (map f xs) i (f x)
-map-set f [] i x = refl
-map-set f (y ∷ ys) zero x = refl
-map-set f (y ∷ ys) (suc i) x = ap (λ l. f y ∷ l) (map-set f ys i x)
-
-length-map : {A B : Type 0} (f : A → B) (xs : List A) → length (map f xs) ≡ length xs
-length-map f [] = refl
-length-map f (x ∷ xs) = ap suc (length-map f xs)
 
 get_in-map : {A K X : Type 0} {R : K → K → Ordering} (f : A → FinMap R X) (xs : List A) (i : ℕ) (d : A) (k : K) → i < length xs → get_in (map f xs) i k ≡ get (f (get_or xs i d)) k
 get_in-map f [] i d k lt = absurd (omega arith)
@@ -74,15 +66,15 @@ shards_after ss i own all h lt s = λ j. record { rows = rows j; recs = recs j; 
   where
     rows : (all_shards (set ss i own.contents)).rows ≡ all.contents.rows
     rows = ap gathered (map-set (λ (s : Shard). s.rows) ss i own.contents)
-        ∙ gathered-set nat_list_cmp_total bytes_apart home_of_row (map (λ (s : Shard). s.rows) ss) i own.contents.rows all.contents.rows (let same = length-map (λ (s : Shard). s.rows) ss in omega arith) (own_rows 0 ss h) s.rows.own s.rows.here s.rows.there
+        ∙ gathered-set nat_list_cmp_total bytes_apart home_of_row (map (λ (s : Shard). s.rows) ss) i own.contents.rows all.contents.rows (let same = length-map ss (λ (s : Shard). s.rows) in omega arith) (own_rows 0 ss h) s.rows.own s.rows.here s.rows.there
 
     recs : (all_shards (set ss i own.contents)).recs ≡ all.contents.recs
     recs = ap gathered (map-set (λ (s : Shard). s.recs) ss i own.contents)
-        ∙ gathered-set nat_cmp_total nat_cmp-IsAntisymmetric home_of_number (map (λ (s : Shard). s.recs) ss) i own.contents.recs all.contents.recs (let same = length-map (λ (s : Shard). s.recs) ss in omega arith) (own_recs 0 ss h) s.recs.own s.recs.here s.recs.there
+        ∙ gathered-set nat_cmp_total nat_cmp-IsAntisymmetric home_of_number (map (λ (s : Shard). s.recs) ss) i own.contents.recs all.contents.recs (let same = length-map ss (λ (s : Shard). s.recs) in omega arith) (own_recs 0 ss h) s.recs.own s.recs.here s.recs.there
 
     locks : (all_shards (set ss i own.contents)).locks ≡ all.contents.locks
     locks = ap gathered (map-set (λ (s : Shard). s.locks) ss i own.contents)
-        ∙ gathered-set nat_list_cmp_total bytes_apart home_of_row (map (λ (s : Shard). s.locks) ss) i own.contents.locks all.contents.locks (let same = length-map (λ (s : Shard). s.locks) ss in omega arith) (own_locks 0 ss h) s.locks.own s.locks.here s.locks.there
+        ∙ gathered-set nat_list_cmp_total bytes_apart home_of_row (map (λ (s : Shard). s.locks) ss) i own.contents.locks all.contents.locks (let same = length-map ss (λ (s : Shard). s.locks) in omega arith) (own_locks 0 ss h) s.locks.own s.locks.here s.locks.there
 
 -- ---- stores
 pub own_files : (first : ℕ) (ss : List Store) → AreOwnStores first ss → LieFrom home_of_number first ss

@@ -1,7 +1,8 @@
 -- The clients of a script that is in form.
 use Rattle.std.proofs.Common.{◌≡◌, ◌≢◌, ℕ, ◌<◌, List, [], ◌∷◌, Bool, true, false, ◌==◌, refl, arith, subst}
-use Rattle.std.specs.Prelude.{IsTrue, nat_lt, nat_le, ◌&&◌, ◌||◌}
+use Rattle.std.specs.Prelude.{IsTrue, nat_lt, nat_le, ◌&&◌}
 use Rattle.std.specs.List.{list_any, list_all}
+use Rattle.std.proofs.lemmas.Bool.{or_right}
 use Rattle.std.proofs.lemmas.Bool.Decides.{nat_tests}
 use Rattle.cfs_ids.specs.declared.ids.Actor.{Actor}
 use Rattle.cfs_ids.specs.declared.ids.Actor.TheVariants.{Client as ClientTurn}
@@ -35,17 +36,13 @@ rising low (l ∷ lists) h =
     let later = rising l.0.0 lists parts.1 in
     ((above, weaker low l.0.0 (members_in lists) above later.0), later)
 
-either : (a b : Bool) → b ≡ true → (a || b) ≡ true
-either true b e = refl
-either false b e = e
-
 pub callers : (lists : Lists) → HasCallers (plans_in lists) (members_in lists)
 callers [] c some = absurd (some refl)
 callers (l ∷ lists) c some = by_test (l.0.0 == c) refl (callers lists c)
   where
     by_test : (b : Bool) → (l.0.0 == c) ≡ b → (plans_in lists c ≢ Ends → list_any (λ m. m == c) (members_in lists) ≡ true) → list_any (λ m. m == c) (members_in (l ∷ lists)) ≡ true
     by_test true e later = rw e refl
-    by_test false e later = either (l.0.0 == c) (list_any (λ m. m == c) (members_in lists)) (later (rw e at some))
+    by_test false e later = or_right (l.0.0 == c) (list_any (λ m. m == c) (members_in lists)) (later (rw e at some))
 
 -- whether a client is a member, and whether it has commands
 in-members : (lists : Lists) (c : ℕ) → list_any (λ (l : Client × List Command). l.0.0 == c) lists ≡ list_any (λ m. m == c) (members_in lists)

@@ -20,8 +20,8 @@ use std::thread::Threads;
 
 /// Reads a script, makes its turns, and writes what came of them. The status is Done where all was read and written;
 /// Script with the first line that has a fault, and the first of its faults; ReadFault and WriteFault exactly where the
-/// device failed; and NoMemory where no memory was left, which comes only before the first byte is written. No other
-/// status comes.
+/// device failed, while its count of faults is below the greatest u64; and NoMemory where no memory was left, which
+/// comes only before the first byte is written. No other status comes.
 pub fn replay<S: Source, K: Sink>(alloc: Global, source: &mut S, sink: &mut K) -> Status
     // What was read is a script, and what was taken is the text of its run.
     ensures done { result ≡ Status.Done → Replayed (S.left source.old) (S.left source.new) (K.taken sink.old) (K.taken sink.new) }

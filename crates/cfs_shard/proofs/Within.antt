@@ -1,10 +1,10 @@
 -- Each step of a shard lengthens the log by one, and the counts of its directories by one at most.
-use Rattle.std.proofs.Common.{◌≡◌, ℕ, ◌+◌, ◌-◌, ◌≤◌, List, Bool, true, false, cond, refl, arith, ◌⊎◌, inl, inr}
+use Rattle.std.proofs.Common.{◌≡◌, ℕ, ◌+◌, ◌≤◌, List, Bool, true, false, refl, arith, ◌⊎◌, inl, inr}
 use Rattle.std.specs.Prelude.{if◌then◌else◌, ◌==◌, Option, Some, None}
 use Rattle.std.proofs.lemmas.Bool.Decides.{nat_tests}
 use Rattle.std.specs.Ordering.{nat_cmp}
-use Rattle.std.specs.FinMap.{get, insert, remove, empty, len, contains_key, gets, get-empty, len-insert, len-remove, len-empty}
-use Rattle.std.specs.Cmp.{nat_cmp_total}
+use Rattle.std.specs.FinMap.{get, insert, remove, empty, len, gets, get-empty, len-empty}
+use Rattle.cfs_ids.proofs.MapLemmas.{set-few, cut-few}
 use Rattle.cfs_ids.specs.declared.ids.DirId.{DirId}
 use Rattle.cfs_ids.specs.declared.ids.Client.{Client}
 use Rattle.cfs_ids.specs.declared.ids.JobNo.{JobNo}
@@ -115,20 +115,6 @@ opening-within index = by_test (index == 0)
     by_test false = λ d r e. absurd (none_there d r e)
 
 -- ---- how many records there are
-one_more_at_most : (b : Bool) (n : ℕ) → cond b n (n + 1) ≤ n + 1
-one_more_at_most true n = omega arith
-one_more_at_most false n = omega arith
-
-one_less_at_least : (b : Bool) (n : ℕ) → cond b (n - 1) n ≤ n + 1
-one_less_at_least true n = omega arith
-one_less_at_least false n = omega arith
-
-set-few : (m : Numbers DirRec) (k : ℕ) (v : DirRec) → len (insert m k v) ≤ len m + 1
-set-few m k v = let e = len-insert nat_cmp_total m k v in let le = one_more_at_most (contains_key m k) (len m) in omega arith
-
-cut-few : (m : Numbers DirRec) (k : ℕ) → len (remove m k) ≤ len m + 1
-cut-few m k = let e = len-remove nat_cmp_total m k in let le = one_less_at_least (contains_key m k) (len m) in omega arith
-
 insert-few : (s : Shard) (at : Stamp) (client : Client) (dir : DirId) (name : List ℕ) (node : Node) (ts : ℕ) (o : Option DirRec) (q : Option Row) → len (inserted s at client dir name node ts o q).contents.recs ≤ len s.recs + 1
 insert-few s at client dir name node ts None q = omega arith
 insert-few s at client dir name node ts (Some r) (Some row) = omega arith

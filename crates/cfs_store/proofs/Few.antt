@@ -1,8 +1,8 @@
 -- A store gets one more record at most with each step.
-use Rattle.std.proofs.Common.{ℕ, ◌+◌, ◌-◌, ◌≤◌, Bool, true, false, cond, arith}
+use Rattle.std.proofs.Common.{◌+◌, ◌≤◌, Bool, true, false, arith}
 use Rattle.std.specs.Prelude.{if◌then◌else◌, ◌==◌, Option, Some, None}
-use Rattle.std.specs.Cmp.{nat_cmp_total}
-use Rattle.std.specs.FinMap.{get, insert, remove, len, contains_key, len-insert, len-remove}
+use Rattle.std.specs.FinMap.{get, remove, len}
+use Rattle.cfs_ids.proofs.MapLemmas.{set-few, cut-few}
 use Rattle.cfs_ids.specs.declared.ids.FileId.{FileId}
 use Rattle.cfs_ids.specs.declared.ids.Client.{Client}
 use Rattle.cfs_ids.specs.declared.ids.Stamp.{Stamp}
@@ -12,20 +12,6 @@ use Rattle.cfs_steps.specs.declared.ask.Ask.TheVariants.{Read, List, Insert, Put
 use Rattle.cfs_steps.specs.declared.answer.Answer.TheVariants.{Done, None as NoneAnswer}
 use Rattle.cfs_steps.specs.declared.contents.FileRec.{FileRec}
 use Rattle.cfs_rules.specs.Places.{Store, unmoved, made_at, new_file, settled, settle_owner, taken_back, take_owned, serve_store}
-
-one_more_at_most : (b : Bool) (n : ℕ) → cond b n (n + 1) ≤ n + 1
-one_more_at_most true n = omega arith
-one_more_at_most false n = omega arith
-
-one_less_at_least : (b : Bool) (n : ℕ) → cond b (n - 1) n ≤ n + 1
-one_less_at_least true n = omega arith
-one_less_at_least false n = omega arith
-
-set-few : (s : Store) (k : ℕ) (v : FileRec) → len (insert s k v) ≤ len s + 1
-set-few s k v = let e = len-insert nat_cmp_total s k v in let le = one_more_at_most (contains_key s k) (len s) in omega arith
-
-cut-few : (s : Store) (k : ℕ) → len (remove s k) ≤ len s + 1
-cut-few s k = let e = len-remove nat_cmp_total s k in let le = one_less_at_least (contains_key s k) (len s) in omega arith
 
 settle-few : (s : Store) (file : FileId) (o : Option FileRec) → len (settled s file o).contents ≤ len s + 1
 settle-few s file None = omega arith

@@ -1,6 +1,8 @@
-//! Tests of the core that turns clients, of lists of turns, and of the history that they leave.
+//! Tests of clients, of the core that turns them, of lists of turns, and of the history that they leave.
 #![tactic(auto)]
 
+#[cfg(test)]
+mod clients;
 #[cfg(test)]
 mod core_turns;
 #[cfg(test)]

@@ -1,8 +1,6 @@
-//! Tests of steps, the calls step by step, clients and histories.
+//! Tests of steps, the calls step by step, and histories.
 #![tactic(auto)]
 
-#[cfg(test)]
-mod actor;
 #[cfg(test)]
 mod history;
 #[cfg(test)]

@@ -1,5 +1,6 @@
 -- Where the place with a number stands.
 use Rattle.std.proofs.Common.{◌≡◌, ◌≢◌, ℕ, suc, zero, ◌+◌, ◌-◌, ◌<◌, ◌≤◌, List, [], ◌∷◌, length, map, Bool, true, false, refl, sym, ◌∙◌, ap, subst, arith}
+use Rattle.std.proofs.lemmas.List.{length-map}
 use Rattle.std.specs.Prelude.{◌==◌, ◌||◌, ◌&&◌, if◌then◌else◌, nat_lt, nat_le, slice_get, Option, Some, None, is_some}
 use Rattle.std.proofs.lemmas.Bool.Decides.{nat_tests}
 use Rattle.std.specs.Option.{option_map}
@@ -17,7 +18,6 @@ use Rattle.cfs_view.specs.PlaceViews.{shard_view, store_view, number_of}
 use Rattle.cfs_view.specs.PlaceLists.{shard_items, store_items, place_in, index_in, AreService}
 use Rattle.cfs_view.specs.Views.{counts_in}
 use Rattle.cfs_view.proofs.Composing.{ended, composed, composed_length, compose}
-use Rattle.cfs_view.proofs.OneOfSeveral.{length-map}
 
 pub place_at_index : (places : List Place) (n : ℕ) → slice_get places (index_in places n) ≡ place_in places n
 place_at_index [] n = refl
@@ -83,10 +83,10 @@ module _ (d : Desk) (r : Roster) where
 -- ---- in all places of a service
 module _ (ps : List Place) (good : AreService ps) where
   pub few_shards : length (shard_items ps) ≤ 64
-  few_shards = let few = good.shards.few in let same = length-map shard_view (shard_items ps) in omega arith
+  few_shards = let few = good.shards.few in let same = length-map (shard_items ps) shard_view in omega arith
 
   pub few_stores : length (store_items ps) ≤ 64
-  few_stores = let few = good.stores.few in let same = length-map store_view (store_items ps) in omega arith
+  few_stores = let few = good.stores.few in let same = length-map (store_items ps) store_view in omega arith
 
   pub places_length : length ps ≡ length (shard_items ps) + length (store_items ps) + 2
   places_length = let c = compose ps good.in_order in ap length c.is ∙ composed_length c.desk c.roster (shard_items ps) (store_items ps)

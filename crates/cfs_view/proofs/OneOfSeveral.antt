@@ -1,5 +1,6 @@
 -- A step at one of several places, from what that place shows.
-use Rattle.std.proofs.Common.{◌≡◌, ℕ, suc, zero, ◌+◌, ◌<◌, List, [], ◌∷◌, length, map, set, get_or, refl, sym, ◌∙◌, ap, subst, arith}
+use Rattle.std.proofs.Common.{◌≡◌, ℕ, suc, zero, ◌+◌, ◌<◌, List, [], ◌∷◌, length, set, get_or, sym, ◌∙◌, ap, subst, arith}
+use Rattle.std.proofs.lemmas.List.{map-set, length-map, get_or-map}
 use Rattle.cfs_ids.specs.declared.ids.Actor.{Actor}
 use Rattle.cfs_steps.specs.declared.ask.Ask.{Ask}
 use Rattle.cfs_steps.specs.declared.entry.Entry.{Entry}
@@ -10,30 +11,6 @@ use Rattle.cfs_rules.specs.Homes.{all_shards, all_stores, IsOwnShard, IsOwnStore
 use Rattle.cfs_rules.proofs.Gathering.{ServesShard, ServesStore, shard_serves, store_serves}
 use Rattle.cfs_rules.proofs.Whole.{AreOwnShards-set, shard_agrees, shards_after, AreOwnStores-set, store_agrees, stores_after}
 use Rattle.cfs_rules.specs.Several.{View, contents_in, AreNumbered, AreShards, AreStores}
-
-pub map-set : {A B : Type 0} (f : A → B) (xs : List A) (i : ℕ) (x : A) → map f (set xs i x) ≡ set (map f xs) i (f x)
-map-set f [] i x = refl
-map-set f (y ∷ ys) zero x = refl
-map-set f (y ∷ ys) (suc i) x = ap (λ l. f y ∷ l) (map-set f ys i x)
-
-pub length-set : {A : Type 0} (xs : List A) (i : ℕ) (x : A) → length (set xs i x) ≡ length xs
-length-set [] i x = refl
-length-set (y ∷ ys) zero x = refl
-length-set (y ∷ ys) (suc i) x = ap suc (length-set ys i x)
-
-pub length-map : {A B : Type 0} (f : A → B) (xs : List A) → length (map f xs) ≡ length xs
-length-map f [] = refl
-length-map f (x ∷ xs) = ap suc (length-map f xs)
-
-pub set-same : {A : Type 0} (xs : List A) (i : ℕ) (d : A) → set xs i (get_or xs i d) ≡ xs
-set-same [] i d = refl
-set-same (x ∷ xs) zero d = refl
-set-same (x ∷ xs) (suc i) d = ap (λ l. x ∷ l) (set-same xs i d)
-
-pub get_or-map : {A B : Type 0} (f : A → B) (xs : List A) (i : ℕ) (d : A) (e : B) → i < length xs → get_or (map f xs) i e ≡ f (get_or xs i d)
-get_or-map f [] i d e lt = absurd (omega arith)
-get_or-map f (x ∷ xs) zero d e lt = refl
-get_or-map f (x ∷ xs) (suc i) d e lt = get_or-map f xs i d e (omega arith)
 
 module _ {C : Type 0} where
   numbered_here : (first : ℕ) (vs : List (View C)) (i : ℕ) (d : View C) → AreNumbered first vs → i < length vs → (get_or vs i d).index ≡ i + first
@@ -52,7 +29,7 @@ module _ (vs : List (View Shard)) (good : AreShards vs) (i : ℕ) (lt : i < leng
   low = let few = good.few in omega arith
 
   contents_lt : i < length (contents_in vs)
-  contents_lt = let same = length-map (λ (w : View Shard). w.contents) vs in omega arith
+  contents_lt = let same = length-map vs (λ (w : View Shard). w.contents) in omega arith
 
   contents_is : v.contents ≡ get_or (contents_in vs) i v.contents
   contents_is = ap (λ (w : View Shard). w.contents) is ∙ sym (get_or-map (λ (w : View Shard). w.contents) vs i v v.contents lt)
@@ -87,7 +64,7 @@ module _ (vs : List (View Store)) (good : AreStores vs) (i : ℕ) (lt : i < leng
   low_store = let few = good.few in omega arith
 
   files_lt : i < length (contents_in vs)
-  files_lt = let same = length-map (λ (w : View Store). w.contents) vs in omega arith
+  files_lt = let same = length-map vs (λ (w : View Store). w.contents) in omega arith
 
   files_is : v.contents ≡ get_or (contents_in vs) i v.contents
   files_is = ap (λ (w : View Store). w.contents) is ∙ sym (get_or-map (λ (w : View Store). w.contents) vs i v v.contents lt)

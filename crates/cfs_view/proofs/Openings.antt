@@ -1,5 +1,6 @@
 -- The shards and the stores with which a service opens.
 use Rattle.std.proofs.Common.{◌≡◌, ◌≢◌, ℕ, suc, zero, ◌+◌, ◌<◌, ◌≤◌, List, [], ◌∷◌, ◌++◌, length, length-append, map, reverse, Bool, true, false, refl, sym, ◌∙◌, ap, subst, arith}
+use Rattle.std.proofs.lemmas.List.{length-map}
 use Rattle.std.specs.Prelude.{◌==◌, if◌then◌else◌, Some, None}
 use Rattle.std.proofs.lemmas.Bool.Decides.{nat_tests}
 use Rattle.std.specs.Ordering.{nat_cmp}
@@ -28,7 +29,6 @@ use Rattle.cfs_view.specs.Held.{opening_held}
 use Rattle.cfs_view.specs.PlaceViews.{shard_view, store_view, number_of, log_of, last_of}
 use Rattle.cfs_view.specs.PlaceLists.{shard_items, store_items, roster_in, place_in, are_shards_first, are_stores_first, AreService}
 use Rattle.cfs_view.specs.Views.{held_in, counts_in, lasts_in, logs_in, last_shown, log_shown}
-use Rattle.cfs_view.proofs.OneOfSeveral.{length-map}
 
 -- a place that has served nothing
 pub record IsFresh {C : Type 0} (opening : ℕ → C) (index : ℕ) (v : View C) : Type 0 where
@@ -222,7 +222,7 @@ shard_more n m ps s h fresh =
     let items = items-append ps (kind.Shard s ∷ []) in
     record {
       fresh_shards = subst (λ ss. AreFresh opening_part 0 (map shard_view ss)) (sym items.0) (subst (AreFresh opening_part 0) (sym (map-more shard_view (shard_items ps) s))
-          (fresh_more opening_part 0 (map shard_view (shard_items ps)) (shard_view s) h.fresh_shards (subst (λ k. IsFresh opening_part k (shard_view s)) (let same = length-map shard_view (shard_items ps) in omega (arith, same, h.shards_are)) fresh)));
+          (fresh_more opening_part 0 (map shard_view (shard_items ps)) (shard_view s) h.fresh_shards (subst (λ k. IsFresh opening_part k (shard_view s)) (let same = length-map (shard_items ps) shard_view in omega (arith, same, h.shards_are)) fresh)));
       fresh_stores = subst (λ ts. AreFresh no_files 0 (map store_view ts)) (sym (items.1 ∙ append_empty (store_items ps))) h.fresh_stores;
       shards_are = ap length items.0 ∙ length-append (shard_items ps) (s ∷ []) ∙ omega (arith, h.shards_are);
       stores_are = ap length (items.1 ∙ append_empty (store_items ps)) ∙ h.stores_are;
@@ -236,7 +236,7 @@ store_more n m ps t h fresh =
     record {
       fresh_shards = subst (λ ss. AreFresh opening_part 0 (map shard_view ss)) (sym (items.0 ∙ append_empty (shard_items ps))) h.fresh_shards;
       fresh_stores = subst (λ ts. AreFresh no_files 0 (map store_view ts)) (sym items.1) (subst (AreFresh no_files 0) (sym (map-more store_view (store_items ps) t))
-          (fresh_more no_files 0 (map store_view (store_items ps)) (store_view t) h.fresh_stores (subst (λ k. IsFresh no_files k (store_view t)) (let same = length-map store_view (store_items ps) in omega (arith, same, h.stores_are)) fresh)));
+          (fresh_more no_files 0 (map store_view (store_items ps)) (store_view t) h.fresh_stores (subst (λ k. IsFresh no_files k (store_view t)) (let same = length-map (store_items ps) store_view in omega (arith, same, h.stores_are)) fresh)));
       shards_are = ap length (items.0 ∙ append_empty (shard_items ps)) ∙ h.shards_are;
       stores_are = ap length items.1 ∙ length-append (store_items ps) (t ∷ []) ∙ omega (arith, h.stores_are);
       quiet = quiet_more ps (kind.Store t) h.quiet fresh.last fresh.log;
@@ -286,13 +286,13 @@ module _ (n m : ℕ) (ps : List Place) (d : Desk) (r : Roster) (h : IsOpening n 
   quiet = quiet_more (ps ++ kind.Desk d ∷ []) (kind.Roster r) (quiet_more ps (kind.Desk d) h.quiet last log) own_last own_log
 
   few_views : length (map shard_view (shard_items ps)) ≤ 64
-  few_views = let same = length-map shard_view (shard_items ps) in omega (arith, same, h.shards_are, few_shards)
+  few_views = let same = length-map (shard_items ps) shard_view in omega (arith, same, h.shards_are, few_shards)
 
   pub opens_held : held_in all ≡ opening_held
   opens_held = λ j. record { shard = shard j; store = store j; roster = (ap roster_in joined ∙ h.clients (kind.Desk d ∷ kind.Roster r ∷ []) ∙ clients) j; lasts = λ p. quiet_lasts all p quiet j; logs = λ p. quiet_logs all p quiet j }
     where
       shard : (held_in all).shard ≡ opening_shard
-      shard = ap (λ ss. all_shards (contents_in (map shard_view ss))) shards_same ∙ shards_open (map shard_view (shard_items ps)) (let same = length-map shard_view (shard_items ps) in omega (arith, same, h.shards_are, some)) h.fresh_shards
+      shard = ap (λ ss. all_shards (contents_in (map shard_view ss))) shards_same ∙ shards_open (map shard_view (shard_items ps)) (let same = length-map (shard_items ps) shard_view in omega (arith, same, h.shards_are, some)) h.fresh_shards
 
       store : (held_in all).store ≡ empty
       store = ap (λ ts. all_stores (contents_in (map store_view ts))) stores_same ∙ stores_open (map store_view (store_items ps)) h.fresh_stores
@@ -305,5 +305,5 @@ module _ (n m : ℕ) (ps : List Place) (d : Desk) (r : Roster) (h : IsOpening n 
     in_order = ap are_shards_first joined ∙ starts (kind.Desk d ∷ kind.Roster r ∷ []) refl;
     some = let same = ap length shards_same in omega (arith, same, h.shards_are, some);
     shards = subst (λ ss. AreShards (map shard_view ss)) (sym shards_same) (shards_good (map shard_view (shard_items ps)) few_views h.fresh_shards);
-    stores = subst (λ ts. AreStores (map store_view ts)) (sym stores_same) (stores_good (map store_view (store_items ps)) (let same = length-map store_view (store_items ps) in omega (arith, same, h.stores_are, few_stores)) h.fresh_stores);
+    stores = subst (λ ts. AreStores (map store_view ts)) (sym stores_same) (stores_good (map store_view (store_items ps)) (let same = length-map (store_items ps) store_view in omega (arith, same, h.stores_are, few_stores)) h.fresh_stores);
   }

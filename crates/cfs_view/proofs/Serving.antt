@@ -1,5 +1,6 @@
 -- What serving an ask makes of all places.
 use Rattle.std.proofs.Common.{◌≡◌, ℕ, ◌+◌, ◌<◌, ◌≤◌, List, [], ◌∷◌, ◌++◌, length, map, set, get_or, true, false, sym, ◌∙◌, ap, subst, arith, Result, Ok, Err}
+use Rattle.std.proofs.lemmas.List.{map-set, length-set, length-map, get_or-map, set-get_or}
 use Rattle.std.specs.Prelude.{◌==◌, IfOk, OnOk, OnErr, nat_lt, IsTrue}
 use Rattle.std.proofs.lemmas.Bool.Decides.{nat_tests}
 use Rattle.cfs_ids.specs.declared.ids.Actor.{Actor}
@@ -29,7 +30,7 @@ use Rattle.cfs_view.specs.Views.{held_in, counts_in, lasts_in}
 use Rattle.cfs_view.proofs.Changing.{number_here, last_here, lasts_step, logs_step, lasts_kept, logs_kept}
 use Rattle.cfs_view.proofs.Composing.{composed, composed_shards, composed_stores, composed_roster, composed_order, set_shard, set_store, set_desk, set_roster, Stands, stands, compose}
 use Rattle.cfs_view.proofs.Finding.{found, there}
-use Rattle.cfs_view.proofs.OneOfSeveral.{map-set, length-set, length-map, get_or-map, set-same, index_is, shard_entry, shard_contents, shards_good, store_index_is, store_entry, store_contents, stores_good}
+use Rattle.cfs_view.proofs.OneOfSeveral.{index_is, shard_entry, shard_contents, shards_good, store_index_is, store_entry, store_contents, stores_good}
 
 -- a place that is there stands in the list
 pub stands_there : (ps : List Place) → AreService ps → (n : ℕ) → IsTrue (has_place (counts_in ps) n) → index_in ps n < length ps
@@ -84,7 +85,7 @@ module _ (ps : List Place) (good : AreService ps) (ask : Ask) (lt : index_in ps 
     stood = where_it_stands (kind.Shard s) is
 
     view_lt : at < length (map shard_view ss)
-    view_lt = let same = length-map shard_view ss in omega (arith, stood.0)
+    view_lt = let same = length-map ss shard_view in omega (arith, stood.0)
 
     view_is : shard_view s ≡ get_or (map shard_view ss) at (shard_view s)
     view_is = ap shard_view stood.1 ∙ sym (get_or-map shard_view ss at s (shard_view s) stood.0)
@@ -152,7 +153,7 @@ module _ (ps : List Place) (good : AreService ps) (ask : Ask) (lt : index_in ps 
           all = ap (λ vs. all_shards (contents_in vs)) views ∙ shard_contents (map shard_view ss) good.shards at view_lt (shard_view s) view_is (shard_view s') number ask here (own_contents contents)
 
       same_views : shards.shown s' ≡ shards.shown s → map shard_view (shard_items (set ps at (kind.Shard s'))) ≡ map shard_view ss
-      same_views e = views ∙ ap (set (map shard_view ss) at) (ap (λ (x : shards.Shown). record { contents = x.contents; log = x.log; last = x.last; index = x.index }) e ∙ view_is) ∙ set-same (map shard_view ss) at (shard_view s)
+      same_views e = views ∙ ap (set (map shard_view ss) at) (ap (λ (x : shards.Shown). record { contents = x.contents; log = x.log; last = x.last; index = x.index }) e ∙ view_is) ∙ set-get_or (map shard_view ss) at (shard_view s)
 
       pub shard_kept : (r : Result Entry ServeFault) → OnErr r (shards.shown s' ≡ shards.shown s) → OnErr r (held_in (set ps at (kind.Shard s')) ≡ held_in ps)
       shard_kept (Ok entry) e = tt
@@ -190,7 +191,7 @@ module _ (ps : List Place) (good : AreService ps) (ask : Ask) (lt : index_in ps 
     j = stood_store.0
 
     store_lt : j < length (map store_view ts)
-    store_lt = let same = length-map store_view ts in omega (arith, stood_store.2)
+    store_lt = let same = length-map ts store_view in omega (arith, stood_store.2)
 
     store_is : store_view t ≡ get_or (map store_view ts) j (store_view t)
     store_is = ap store_view stood_store.3 ∙ sym (get_or-map store_view ts j t (store_view t) stood_store.2)
@@ -262,7 +263,7 @@ module _ (ps : List Place) (good : AreService ps) (ask : Ask) (lt : index_in ps 
           all = ap (λ vs. all_stores (contents_in vs)) store_views ∙ store_contents (map store_view ts) good.stores j store_lt (store_view t) store_is (store_view t') number_s ask store_here (store_moved contents)
 
       same_store_views : t' ≡ t → map store_view (store_items (set ps at (kind.Store t'))) ≡ map store_view ts
-      same_store_views e = store_views ∙ ap (set (map store_view ts) j) (ap store_view e ∙ store_is) ∙ set-same (map store_view ts) j (store_view t)
+      same_store_views e = store_views ∙ ap (set (map store_view ts) j) (ap store_view e ∙ store_is) ∙ set-get_or (map store_view ts) j (store_view t)
 
       pub store_service : (r : Result Entry ServeFault) → OnOk r (stores.contents_of t' ≡ (serve_store (stores.contents_of t) (record { number = number_s; place = record { 0 = 64 + stores.index_of t } }) ask).contents)
           → OnErr r (t' ≡ t) → AreService (set ps at (kind.Store t'))

@@ -1,5 +1,6 @@
 -- The maps that the records show, shard by shard and store by store, are the tree's.
 use Rattle.std.proofs.Common.{◌≡◌, ◌≢◌, ℕ, suc, zero, ◌+◌, ◌<◌, ◌≤◌, List, [], ◌∷◌, map, length, get_or, Bool, true, false, cond, refl, sym, ◌∙◌, ap, arith}
+use Rattle.std.proofs.lemmas.List.{length-map}
 use Rattle.std.specs.Prelude.{◌||◌, ◌==◌, if◌then◌else◌, nat_lt, Option, Some, None, is_none}
 use Rattle.std.proofs.lemmas.Bool.Decides.{nat_tests}
 use Rattle.std.specs.Option.{option_map}
@@ -73,10 +74,6 @@ no_map [] n q past = refl
 no_map (m ∷ ms) zero q past = absurd (omega arith)
 no_map (m ∷ ms) (suc n) q past = no_map ms n q (omega arith)
 
-length-map : {A B : Type 0} (f : A → B) (xs : List A) → length (map f xs) ≡ length xs
-length-map f [] = refl
-length-map f (x ∷ xs) = ap suc (length-map f xs)
-
 at_index : (ss : List Shard) (n : ℕ) → n < length ss → (s : Shard) × (s ≡ get_or ss n s)
 at_index [] n lt = absurd (omega arith)
 at_index (s ∷ ss) zero lt = (s, refl)
@@ -107,7 +104,7 @@ module _ (ss : List Shard) (own : AreOwnShards 0 ss) (named : Node → Bool) (ar
       let past : length ss ≤ home_of_number q = grind (arith, nat_tests) in
       let none : get (all_shards ss).recs q ≡ None =
       get-gathered nat_cmp_total nat_cmp-IsAntisymmetric home_of_number (map (λ (s : Shard). s.recs) ss) q (own_recs 0 ss own)
-      ∙ no_map (map (λ (s : Shard). s.recs) ss) (home_of_number q) q (let same = length-map (λ (s : Shard). s.recs) ss in omega arith) in
+      ∙ no_map (map (λ (s : Shard). s.recs) ss) (home_of_number q) q (let same = length-map ss (λ (s : Shard). s.recs) in omega arith) in
       given_past named ss (home_of_number q) q None past
       ∙ sym (ap (λ o. option_map (directory_of (all_shards ss) q) (cond (is_shown (all_shards ss) q) o None)) none ∙ of_none (is_shown (all_shards ss) q))
     where

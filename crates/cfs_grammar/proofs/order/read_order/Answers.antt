@@ -5,4 +5,4 @@ use Rattle.cfs_grammar.proofs.order.read_order.Goals as goal
 
 pub returns-clause-in_form : goal.returns-clause-in_form
 returns-clause-in_form c =
-    command_said-in_form (verb_of c.in-Some-cut_word.word.now) (words c.in-Some-cut_word.rest.now) c.in_ok-command.command c.in_ok-command.ensures.said
+    command_said-in_form (verb_of c.in-Some-cut_word.word.now) (words c.in-Some-cut_word.rest.now) c.in_ok-command.command c.in_ok-command.ensures

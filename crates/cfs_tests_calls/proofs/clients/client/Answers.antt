@@ -1,5 +1,5 @@
 use Rattle.cfs_core.proofs.Built.{all-formed, all-steps}
-use Rattle.cfs_tests_machines.proofs.actor.client.Goals as goal
+use Rattle.cfs_tests_calls.proofs.clients.client.Goals as goal
 
 pub new-state-requires-clause-form : goal.new-state-requires-clause-form
 new-state-requires-clause-form c = all-formed c.args.commands c.requires
