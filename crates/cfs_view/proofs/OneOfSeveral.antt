@@ -1,6 +1,6 @@
 -- A step at one of several places, from what that place shows.
 use Rattle.std.proofs.Common.{◌≡◌, ℕ, suc, zero, ◌+◌, ◌<◌, List, [], ◌∷◌, length, set, get_or, sym, ◌∙◌, ap, subst, arith}
-use Rattle.std.proofs.lemmas.List.{map-set, length-map, get_or-map}
+use Rattle.std.proofs.lemmas.List.{map-set, length-set, length-map, get_or-map}
 use Rattle.cfs_ids.specs.declared.ids.Actor.{Actor}
 use Rattle.cfs_steps.specs.declared.ask.Ask.{Ask}
 use Rattle.cfs_steps.specs.declared.entry.Entry.{Entry}
