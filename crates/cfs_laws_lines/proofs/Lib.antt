@@ -1,0 +1,4 @@
+pub mod Spans
+pub mod Heard
+pub mod Turns
+pub mod Lines
