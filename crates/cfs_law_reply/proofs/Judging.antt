@@ -6,6 +6,7 @@ use Rattle.cfs_rules.specs.Worlds.{Setup, IsSetup, calls_of, client_of, played}
 use Rattle.cfs_laws.proofs.Histories.{history_legal, history_final, history_moves}
 use Rattle.cfs_laws.proofs.EachLine.{each-line}
 use Rattle.cfs_laws.proofs.Whole.{legal-whole}
+use Rattle.cfs_laws_lines.proofs.Lines.{ends_own, steps_in_lines}
 use Rattle.cfs_core.specs.Finished.{IsRunOf}
 use Rattle.cfs_core.specs.declared.run.Run.{Run}
 use Rattle.cfs_law_reply.specs.Judged.{IsJudged}
@@ -19,6 +20,8 @@ module _ (setup : Setup) (good : IsSetup setup) (turns members : List ℕ) (risi
     whole = legal-whole (world_history members (played setup turns)) (history_legal setup good turns members rising callers);
     moves = history_moves setup good turns members rising callers;
     calls = each-line (played setup turns).run (map (λ c. calls_of (client_of c) ((played setup turns).clients c)) members);
+    ends = ends_own setup good turns members;
+    steps = steps_in_lines setup good turns members callers;
   }
 
   pub of-run : (run : Run) → IsRunOf members (played setup turns) run → IsJudged members (played setup turns) (history_of (reverse run.entries) run.calls.items)

@@ -20,7 +20,8 @@ fn items_of(alloc: Global, run: &Run) -> Result<History, NoMemory>
 
 /// The history of a run. Of a run that turns made of the opening of a setup, where the clients rise by number and all that
 /// make a call are among them, the history is legal, it ends in the tree of the places, which is whole, each move of the
-/// run stands in exactly one line, and each call that made a step has its line. The Err is want of memory.
+/// run stands in exactly one line, each call that made a step has its line, which begins and ends at steps of its client,
+/// and each step of a client's calls lies in a line of that client. The Err is want of memory.
 pub fn history(alloc: Global, run: &Run) -> Result<History, NoMemory>
     ensures items { IfOk result (λ items. items ≡ history_of (reverse run.now.entries) run.now.calls.items) }
     ensures judged { IfOk result (λ items. (setup : Setup) → IsSetup setup → (turns members : List ℕ) → IsRising members → HasCallers setup.plans members

@@ -26,7 +26,7 @@ pub record PastIn (lasts : ℕ → ℕ) (run : List (PlaceNo × Entry)) (all : �
 abbrev pub Past : World → Type 0
 Past w = PastIn w.lasts w.run w.clients
 
-fresh_step : (last : ℕ → ℕ) (run : List (PlaceNo × Entry)) (e : PlaceNo × Entry) → IsLow last run → last e.0.0 < e.1.number → IsFresh run e
+pub fresh_step : (last : ℕ → ℕ) (run : List (PlaceNo × Entry)) (e : PlaceNo × Entry) → IsLow last run → last e.0.0 < e.1.number → IsFresh run e
 fresh_step last run e low new s there = by_test (e.1.number == s.number) refl (e.0.0 == s.place.0) refl
   where
     by_test : (a : Bool) → (e.1.number == s.number) ≡ a → (b : Bool) → (e.0.0 == s.place.0) ≡ b → (a && b) ≡ false

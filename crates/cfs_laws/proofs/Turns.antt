@@ -38,7 +38,7 @@ use Rattle.cfs_laws.proofs.Creates.{begin, settle}
 use Rattle.cfs_laws.proofs.Replied.{answer_now, refuse_now, end_refused, end_moved}
 use Rattle.cfs_laws.proofs.Steps.{PastIn, Past, IsBy, step_entry, past_step}
 
-own_stamp : (number place : ℕ) → ((number == number) && (place == place)) ≡ true
+pub own_stamp : (number place : ℕ) → ((number == number) && (place == place)) ≡ true
 own_stamp number place = grind (arith, nat_tests)
 
 -- ---- the namespace's answers
@@ -164,8 +164,11 @@ in_a_store : (w : World) (c : ℕ) (p : Progress) (ask : Ask) → nat_lt (place_
     → Past (after_store w c p ask (number_after p.last (w.lasts (place_of ask).0)) (serve_store w.store (stamped (number_after p.last (w.lasts (place_of ask).0)) ask) ask)) → Past (step w c p ask)
 in_a_store w c p ask above here h = rw (above, here) h
 
-shard_low : (d : ℕ) → nat_lt (d % 64) 64 ≡ true
+pub shard_low : (d : ℕ) → nat_lt (d % 64) 64 ≡ true
 shard_low d = grind (arith, nat_tests)
+
+pub low_index : (n count : ℕ) → IsCount count → n % count < 64
+low_index n count k = let low : n % count < count = mod_below n count k.0 in omega (arith, k.1)
 
 store_above : (i : ℕ) → nat_lt (64 + i) 64 ≡ false
 store_above i = grind (arith, nat_tests)
@@ -183,9 +186,6 @@ module _ (counts : Counts) (good : AreCounts counts) (w : World) (c : ℕ) (rest
   newer : (ask : Ask) → w.lasts (place_of ask).0 < number_of ask
   newer ask = omega arith
 
-  low_index : (count : ℕ) → IsCount count → (c + puts) % count < 64
-  low_index count k = let low : (c + puts) % count < count = mod_below (c + puts) count k.0 in omega (arith, k.1)
-
   phase_past : (phase : Phase) → Sees w.shard (Some phase) → ClientPast w.run c done (Some phase) → Past (turn_of counts w c (phase_at phase))
   phase_past (Asking (Lookup dir name)) sees h =
       in_a_shard w known.free c (phase_at (Asking (Lookup dir name))) (Read dir name) (shard_low dir.0) (lookup_past w c rest last puts done (number_of (Read dir name)) known past dir name sees.sees _ refl (newer (Read dir name)) h)
@@ -194,12 +194,12 @@ module _ (counts : Counts) (good : AreCounts counts) (w : World) (c : ℕ) (rest
   phase_past (Asking (Create dir name)) sees h =
       let index = (c + puts) % counts.stores in
       let ask = Put (client_of c) (store_place index) dir in
-      let low = low_index counts.stores good.stores in
+      let low = low_index (c + puts) counts.stores good.stores in
       in_a_store w c (phase_at (Asking (Create dir name))) ask (store_above index) (grind (arith, nat_tests, low)) (put_past w c rest last puts done (number_of ask) known past dir name index (newer ask) h)
   phase_past (Asking (Mkdir dir name)) sees h =
       let index = (c + puts) % counts.shards in
       let ask = PutDir (client_of c) (shard_place index) dir name in
-      let low = low_index counts.shards good.shards in
+      let low = low_index (c + puts) counts.shards good.shards in
       in_a_shard w known.free c (phase_at (Asking (Mkdir dir name))) ask (grind (arith, nat_tests, low)) (put_dir_past w c rest last puts done (number_of ask) known past dir name index (newer ask) h)
   phase_past (Asking call) sees h = let built : has_steps call ≡ true = sees.built in absurd (cc)
   phase_past (Inserting dir name node ts first) sees h =

@@ -1,10 +1,8 @@
 -- Each turn keeps the spans of each client's calls.
-use Rattle.std.proofs.Common.{◌≡◌, ℕ, ◌+◌, ◌<◌, List, [], ◌∷◌, Bool, true, false, refl, sym, ap, subst, arith}
+use Rattle.std.proofs.Common.{◌≡◌, ℕ, ◌+◌, ◌<◌, List, [], ◌∷◌, Bool, true, false, refl, sym, subst, arith}
 use Rattle.std.specs.Prelude.{if◌then◌else◌, ◌&&◌, ◌==◌, ◌%◌, nat_lt, not, Option, Some, None}
 use Rattle.std.specs.FinMap.{get}
-use Rattle.std.proofs.lemmas.Bool.{eqb-true}
 use Rattle.std.proofs.lemmas.Bool.Decides.{nat_tests}
-use Rattle.std.proofs.lemmas.Nat.{mod_below}
 use Rattle.cfs_ids.specs.declared.ids.DirId.{DirId}
 use Rattle.cfs_ids.specs.declared.ids.PlaceNo.{PlaceNo}
 use Rattle.cfs_ids.specs.declared.ids.Stamp.{Stamp}
@@ -22,17 +20,15 @@ use Rattle.cfs_steps.specs.declared.line.Line.{Line}
 use Rattle.cfs_steps.specs.Asks.{place_of}
 use Rattle.cfs_steps.specs.Phases.{Phase, Asking, Inserting, Settling, TakingBack, Finished, ask_of, answers_first}
 use Rattle.cfs_rules.specs.Facts.{Unlocked}
-use Rattle.cfs_rules.specs.Histories.{is_at}
 use Rattle.cfs_rules.specs.Known.{Known, Sees}
 use Rattle.cfs_rules.specs.Places.{Roster, Shard, Served, number_after, read_row, list_rows, serve_free, serve_shard, serve_store, serve_roster}
-use Rattle.cfs_rules.specs.Worlds.{World, Plan, Ends, Calls, Counts, AreCounts, IsCount, Setup, IsSetup, Progress, client_of, entry_of, first_of, hears, opening, put_index, run_of, set_client, stamped, step_in, turn, turn_of, played}
+use Rattle.cfs_rules.specs.Worlds.{World, Plan, Ends, Calls, Counts, AreCounts, Setup, IsSetup, Progress, client_of, entry_of, first_of, hears, opening, put_index, run_of, set_client, stamped, step_in, turn, turn_of, played}
 use Rattle.cfs_rules.proofs.Locks.{serve_shard-unlocked}
 use Rattle.cfs_laws_places.proofs.Laws.{known_of}
 use Rattle.cfs_laws.proofs.Stamps.{IsFresh}
 use Rattle.cfs_laws.proofs.Pasts.{PhasePast, done_lines}
-use Rattle.cfs_laws.proofs.Steps.{Past, IsLow, step_entry}
-use Rattle.cfs_laws.proofs.Ordered.{first_true, second_true}
-use Rattle.cfs_laws.proofs.Turns.{past_of}
+use Rattle.cfs_laws.proofs.Steps.{Past, fresh_step, step_entry}
+use Rattle.cfs_laws.proofs.Turns.{low_index, own_stamp, past_of, shard_low}
 use Rattle.cfs_laws_lines.specs.OwnSteps.{is_end}
 use Rattle.cfs_laws_lines.proofs.Spans.{spans-grown}
 use Rattle.cfs_laws_lines.proofs.Heard.{spans, HasOwnSpans, IsHeard, spans-heard}
@@ -54,9 +50,6 @@ list_heard : (s : Shard) (dir : DirId) (o : Option DirRec) → answers_first (Li
 list_heard s dir None = refl
 list_heard s dir (Some r) = refl
 
-shard_low : (d : ℕ) → nat_lt (d % 64) 64 ≡ true
-shard_low d = grind (arith, nat_tests)
-
 free_heard : (s : Shard) → Unlocked s → (at : Stamp) (ask : Ask) (phase : Phase) → IsHeard phase (serve_free s at ask).answer → IsHeard phase (serve_shard s at ask).answer
 free_heard s free at ask phase h = subst (λ (served : Served Shard). IsHeard phase served.answer) (sym (serve_shard-unlocked s free at ask)) h
 
@@ -65,20 +58,17 @@ abbrev ask_at : Counts → (c puts : ℕ) → Phase → Ask
 ask_at counts c puts phase = ask_of (client_of c) (put_index counts (client_of c) puts phase) phase
 
 module _ (counts : Counts) (w : World) (c puts : ℕ) (lines : List Line) where
-  low_index : (count : ℕ) → IsCount count → (c + puts) % count < 64
-  low_index count k = let low : (c + puts) % count < count = mod_below (c + puts) count k.0 in omega (arith, k.1)
-
   -- a call that is under way can hear the answer
   is_heard : AreCounts counts → Unlocked w.shard → (phase : Phase) (at : Stamp) → Sees w.shard (Some phase) → PhasePast w.run c lines (Some phase) → IsHeard phase (answer_to w at (ask_at counts c puts phase))
   is_heard good free (Asking (Lookup dir name)) at sees h = rw (shard_low dir.0) (free_heard w.shard free at (Read dir name) (Asking (Lookup dir name)) (read_heard dir name (get w.shard.rows (row_key dir name))))
   is_heard good free (Asking (ListCall dir)) at sees h = rw (shard_low dir.0) (free_heard w.shard free at (ListAsk dir) (Asking (ListCall dir)) (list_heard w.shard dir (get w.shard.recs dir.0)))
   is_heard good free (Asking (Create dir name)) at sees h =
-      let low = low_index counts.stores good.stores in
+      let low = low_index (c + puts) counts.stores good.stores in
       let above : nat_lt (64 + (c + puts) % counts.stores) 64 ≡ false = grind (arith, nat_tests) in
       let below : nat_lt (64 + (c + puts) % counts.stores) 128 ≡ true = grind (arith, nat_tests, low) in
       rw (above, below) refl
   is_heard good free (Asking (Mkdir dir name)) at sees h =
-      let low = low_index counts.shards good.shards in
+      let low = low_index (c + puts) counts.shards good.shards in
       let below : nat_lt ((c + puts) % counts.shards) 64 ≡ true = grind (arith, nat_tests, low) in
       rw below refl
   is_heard good free (Asking call) at sees h = let built = sees.built in absurd (cc)
@@ -113,27 +103,12 @@ no_call_step false ask h = refl
 other_step : (c i : ℕ) (b : Bool) → (i == c) ≡ false → ((c == i) && b) ≡ false
 other_step c i b h = let differ : (c == i) ≡ false = grind (arith, nat_tests) in rw differ refl
 
--- the stamp of a step with a new number is new
-new_stamp : (lasts : ℕ → ℕ) (run : List (PlaceNo × Entry)) (e : PlaceNo × Entry) → IsLow lasts run → lasts e.0.0 < e.1.number → IsFresh run e
-new_stamp lasts run e low new s there = by_test (is_at s e) refl
-  where
-    by_test : (b : Bool) → is_at s e ≡ b → b ≡ false
-    by_test true t =
-        let number : e.1.number ≡ s.number = eqb-true e.1.number s.number (first_true (e.1.number == s.number) (e.0.0 == s.place.0) t) in
-        let place : e.0.0 ≡ s.place.0 = eqb-true e.0.0 s.place.0 (second_true (e.1.number == s.number) (e.0.0 == s.place.0) t) in
-        absurd (omega (arith, low s there, ap lasts place))
-    by_test false t = refl
-
--- the step's own stamp
-own_stamp : (number place : ℕ) → ((number == number) && (place == place)) ≡ true
-own_stamp number place = grind (arith, nat_tests)
-
 module _ (w : World) (c : ℕ) (p : Progress) (ask : Ask) (number : ℕ) (past : Past w) (new : w.lasts (place_of ask).0 < number) (all : AllOwn w.run w.clients) where
   abbrev after : {C : Type 0} → Served C → Progress
   after s = hears p (place_of ask) (entry_of c number ask s)
 
   new_entry : {C : Type 0} (s : Served C) → IsFresh w.run (step_entry c number ask s)
-  new_entry s = new_stamp w.lasts w.run (step_entry c number ask s) past.low new
+  new_entry s = fresh_step w.lasts w.run (step_entry c number ask s) past.low new
 
   -- the actor's spans are enough: the step is no other client's
   step_own : {C : Type 0} (s : Served C) → HasOwnSpans (step_entry c number ask s ∷ w.run) c (after s).done (after s).current → AllOwn (step_entry c number ask s ∷ w.run) (set_client w.clients c (after s))

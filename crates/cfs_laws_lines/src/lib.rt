@@ -2,7 +2,7 @@
 #![tactic(auto)]
 
 ghost use Rattle.std.specs.Prelude.{◌≡◌, ℕ, List, true};
-ghost use Rattle.cfs_rules.specs.Members.{HasCallers, IsRising};
+ghost use Rattle.cfs_rules.specs.Members.{HasCallers};
 ghost use Rattle.cfs_rules.specs.Histories.{world_history};
 ghost use Rattle.cfs_rules.specs.Legal.{Each};
 ghost use Rattle.cfs_rules.specs.Worlds.{Setup, IsSetup, client_of, played};
@@ -14,9 +14,9 @@ ghost use Rattle.cfs_laws_lines.specs.OwnSteps.{HasOwnEnds, IsInALine, steps_at}
 /// a client one is finished before the other's first step (`calls` of `IsLegal`, which each such history is). So
 /// `first` and `last` are the first and the last of the steps that lie in their line.
 pub fn each_step_is_in_its_line()
-    ensures ends { (setup : Setup) → IsSetup setup → (turns members : List ℕ) → IsRising members → HasCallers setup.plans members
+    ensures ends { (setup : Setup) → IsSetup setup → (turns members : List ℕ)
         → Each (HasOwnEnds (played setup turns).run) (world_history members (played setup turns)) }
-    ensures steps { (setup : Setup) → IsSetup setup → (turns members : List ℕ) → IsRising members → HasCallers setup.plans members
+    ensures steps { (setup : Setup) → IsSetup setup → (turns members : List ℕ) → HasCallers setup.plans members
         → (c p : ℕ) → steps_at (client_of c) (played setup turns).run p ≡ true
         → IsInALine (world_history members (played setup turns)) (client_of c) p }
 {}

@@ -1,15 +1,16 @@
 -- What a script's run prints.
-use Rattle.std.specs.Prelude.{◌≡◌, List, length, map}
+use Rattle.std.specs.Prelude.{◌≡◌, ℕ, List, length, map, true}
 use Rattle.cfs_ids.specs.declared.ids.Client.{Client}
 use Rattle.cfs_ids.specs.Namespace.{IsWhole}
 use Rattle.cfs_script.specs.declared.script.Script.{Script}
 use Rattle.cfs_print.specs.declared.printed.Printed.{Printed}
 use Rattle.cfs_rules.specs.Facts.{MovesMatch}
 use Rattle.cfs_rules.specs.Histories.{lines_of, world_history}
-use Rattle.cfs_rules.specs.Legal.{IsLegal, final}
+use Rattle.cfs_rules.specs.Legal.{Each, IsLegal, final}
 use Rattle.cfs_rules.specs.Trees.{tree, owed_in, strays_in}
 use Rattle.cfs_rules.specs.Worlds.{World, Counts, calls_of, client_of, played}
 use Rattle.cfs_laws.specs.EachLine.{HasEachLine}
+use Rattle.cfs_laws_lines.specs.OwnSteps.{HasOwnEnds, IsInALine, steps_at}
 use Rattle.cfs_steps.specs.declared.call_done.ClientCalls.{ClientCalls}
 use Rattle.cfs_walk.specs.declared.command.Command.{Command}
 use Rattle.cfs_core.specs.Clients.{number_in}
@@ -26,14 +27,17 @@ abbrev pub calls_after : List (Client × List Command) → World → List Client
 calls_after lists w = map (λ c. calls_of (client_of c) (w.clients c)) (members_in lists)
 
 -- What is printed of the world after the turns, for so many shards and stores and for the clients of these lists. Its history
--- is legal and has each move and each call, the printed tree is the namespace that it ends in, a whole one, and each command
--- has the reply that its calls' replies come to.
+-- is legal and has each move and each call, each line begins and ends at its client's own steps, each step of a client's
+-- calls lies in a line of it, the printed tree is the namespace that it ends in, a whole one, and each command has the reply
+-- that its calls' replies come to.
 pub record IsPrintedOf (counts : Counts) (lists : List (Client × List Command)) (w : World) (printed : Printed) : Type 0 where
   pub legal : IsLegal printed.history
   pub last : final printed.history ≡ printed.tree
   pub whole : IsWhole (final printed.history)
   pub moves : MovesMatch w.run printed.history
   pub calls : HasEachLine printed.history (lines_of w.run (calls_after lists w))
+  pub ends : Each (HasOwnEnds w.run) printed.history
+  pub own_steps : (c p : ℕ) → steps_at (client_of c) w.run p ≡ true → IsInALine printed.history (client_of c) p
   pub history : printed.history ≡ world_history (members_in lists) w
   pub tree : printed.tree ≡ tree w.shard w.store
   pub replies : printed.replies ≡ replies_of lists (calls_after lists w)
