@@ -1,6 +1,6 @@
 -- The later of two times: in any order, at any grouping, and once or twice the same.
-use Rattle.std.proofs.Common.{◌≡◌, ℕ, Bool, true, false, refl, arith}
-use Rattle.std.specs.Prelude.{nat_lt, ◌==◌, ◌||◌, ◌&&◌, if◌then◌else◌}
+use Rattle.std.proofs.Common.{◌≡◌, Bool, true, false, refl, arith}
+use Rattle.std.specs.Prelude.{if◌then◌else◌}
 use Rattle.std.proofs.lemmas.Bool.Decides.{nat_tests}
 use Rattle.next_ids.specs.declared.time.Ts.{Ts}
 use Rattle.next_ids.specs.Times.{start, is_before, later}

@@ -1,5 +1,5 @@
 -- Attributes changed by deltas, which are signed: their sums are integers, and the counts that result are natural.
-use Rattle.std.specs.Prelude.{ℕ, ◌<◌, ◌^◌, ℤ, pos, ◌+ℤ◌, ◌≤ℤ◌, List, [], ◌∷◌, length}
+use Rattle.std.specs.Prelude.{◌<◌, ◌^◌, ℤ, pos, ◌+ℤ◌, ◌≤ℤ◌, List, [], ◌∷◌, length}
 use Rattle.std.specs.Int.RustNames.{unsigned_abs}
 use Rattle.next_ids.specs.declared.attributes.DirAttr.{DirAttr}
 use Rattle.next_ids.specs.declared.attributes.Delta.{Delta}
@@ -28,7 +28,8 @@ IsCount z = (pos 0 ≤ℤ z) × (z ≤ℤ pos (2 ^ 62))
 
 -- fewer than 2^31 deltas, after which both counts lie in 0 to 2^62
 abbrev pub CanFold : DirAttr → List Delta → Type 0
-CanFold base deltas = (length deltas < 2 ^ 31) × IsCount (children_after base deltas) × IsCount (subdirs_after base deltas)
+CanFold base deltas =
+    (length deltas < 2 ^ 31) × IsCount (children_after base deltas) × IsCount (subdirs_after base deltas)
 
 -- the attributes after the deltas, where these can be folded
 abbrev pub folded : DirAttr → List Delta → DirAttr

@@ -157,14 +157,16 @@ onto n to_dir full (File file) (Some (Dir old)) = Refused Eisdir
 onto n to_dir full (File file) (Some (File old)) = Moved
 onto n to_dir full (File file) None = Moved
 onto n to_dir full (Dir child) (Some (File old)) = Refused Enotdir
-onto n to_dir full (Dir child) (Some (Dir old)) = if is_empty (get n.dirs old.0) then moves_out n child to_dir else Refused Enotempty
+onto n to_dir full (Dir child) (Some (Dir old)) =
+    if is_empty (get n.dirs old.0) then moves_out n child to_dir else Refused Enotempty
 onto n to_dir true (Dir child) None = Refused Emlink
 onto n to_dir false (Dir child) None = moves_out n child to_dir
 
 -- within one directory a rename of a directory adds no link
 abbrev pub onto_name : Namespace → (dir to_dir : DirId) → (to_name : List ℕ) → Node → Option Directory → Reply
 onto_name n dir to_dir to_name node None = Refused Enoent
-onto_name n dir to_dir to_name node (Some d) = onto n to_dir (not (dir.0 == to_dir.0) && is_full d) node (get d.names to_name)
+onto_name n dir to_dir to_name node (Some d) =
+    onto n to_dir (not (dir.0 == to_dir.0) && is_full d) node (get d.names to_name)
 
 -- whether the two names are one
 abbrev pub is_one_name : (dir : DirId) → (name : List ℕ) → (to_dir : DirId) → (to_name : List ℕ) → Bool
@@ -228,21 +230,24 @@ abbrev pub unlinked_in : Namespace → DirId → List ℕ → Ts → Namespace
 unlinked_in n dir name ts = record { dirs = name_cut n.dirs dir name ts; files = n.files }
 
 abbrev pub removed_in : Namespace → DirId → List ℕ → Ts → Namespace
-removed_in n dir name ts = record { dirs = without_dir (name_cut n.dirs dir name ts) (node_at (get n.dirs dir.0) name); files = n.files }
+removed_in n dir name ts =
+    record { dirs = without_dir (name_cut n.dirs dir name ts) (node_at (get n.dirs dir.0) name); files = n.files }
 
 abbrev pub cut_file : Option FileFacts → (size : ℕ) → Ts → FileFacts
 cut_file None size ts = record { size = size; time = ts }
 cut_file (Some f) size ts = record { size = size; time = later f.time ts }
 
 abbrev pub truncated : Namespace → FileId → (size : ℕ) → Ts → Namespace
-truncated n file size ts = record { dirs = n.dirs; files = insert n.files file.0 (cut_file (get n.files file.0) size ts) }
+truncated n file size ts =
+    record { dirs = n.dirs; files = insert n.files file.0 (cut_file (get n.files file.0) size ts) }
 
 -- the node has the new name and no longer the old one, and a directory that had the new name goes
 abbrev pub set_moved : Numbers Directory → DirId → List ℕ → Ts → Option Node → Numbers Directory
 set_moved dirs to_dir to_name ts None = dirs
 set_moved dirs to_dir to_name ts (Some node) = name_set dirs to_dir to_name node ts
 
-abbrev pub renamed_in : Namespace → (dir : DirId) → (name : List ℕ) → (to_dir : DirId) → (to_name : List ℕ) → Ts → Namespace
+abbrev pub renamed_in : Namespace → (dir : DirId) → (name : List ℕ) → (to_dir : DirId) → (to_name : List ℕ) → Ts
+    → Namespace
 renamed_in n dir name to_dir to_name ts = record {
   dirs = without_dir (set_moved (name_cut n.dirs dir name ts) to_dir to_name ts (node_at (get n.dirs dir.0) name)) (node_at (get n.dirs to_dir.0) to_name);
   files = n.files;

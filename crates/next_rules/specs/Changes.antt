@@ -1,5 +1,5 @@
 -- How a shard changes: a row, a record, a lock or a debt is set or cut, and a change of a directory's attributes is left.
-use Rattle.std.specs.Prelude.{ℕ, ℤ, pos, ◌-ℤ◌, List, [], ◌∷◌, ◌++◌, length, Option, Some, None}
+use Rattle.std.specs.Prelude.{ℕ, pos, ◌-ℤ◌, List, [], ◌∷◌, ◌++◌, length, Option, Some, None}
 use Rattle.std.specs.FinMap.{insert, remove}
 use Rattle.next_ids.specs.declared.ids.DirId.{DirId}
 use Rattle.next_ids.specs.declared.ids.Stamp.{Stamp}

@@ -67,4 +67,5 @@ AreOwnStores index (s ∷ stores) = IsOwnStore index s × AreOwnStores (suc inde
 -- the rows and the record of a directory lie in one shard
 abbrev pub LieTogether : List Shard → Type 0
 LieTogether shards = (i j : ℕ) (s t : Shard) (d : ℕ) (name : List ℕ) (row : Row) (r : DirRec)
-    → slice_get shards i ≡ Some s → slice_get shards j ≡ Some t → get s.rows (d ∷ name) ≡ Some row → get t.recs d ≡ Some r → i ≡ j
+    → slice_get shards i ≡ Some s → slice_get shards j ≡ Some t → get s.rows (d ∷ name) ≡ Some row
+    → get t.recs d ≡ Some r → i ≡ j

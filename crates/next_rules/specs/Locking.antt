@@ -25,7 +25,8 @@ use Rattle.next_rules.specs.Reading.{mark_in, lies_at}
 use Rattle.next_rules.specs.Removing.{has_rows}
 
 -- ---- LockRec: the record, a lock on it, whether it is named so, its mark; and for Replacing another's lock in it, its rows
-abbrev pub rec_locked : Shard → JobNo → DirId → Kind → Option DirRec → (lock : Option JobNo) → (here : Bool) → Option MarkNote
+abbrev pub rec_locked : Shard → JobNo → DirId → Kind → Option DirRec → (lock : Option JobNo) → (here : Bool)
+    → Option MarkNote
     → (inner : Option JobNo) → (rows : Bool) → Served Shard
 rec_locked s job child kind None lock here mark inner rows = unmoved s answer.Gone
 rec_locked s job child kind (Some r) (Some other) here mark inner rows = unmoved s (answer.Locked other)

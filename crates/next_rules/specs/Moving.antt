@@ -47,7 +47,8 @@ end_source s dir name (Some job) = end_lock s dir name
 abbrev pub given_up : Shard → DirId → List ℕ → Shard
 given_up s dir name = end_source (cut_row s dir name) dir name (source_at s dir name)
 
-abbrev pub committed_as : (one_dir : Bool) → Shard → DirId → List ℕ → (to_dir : DirId) → Node → (old : List Node) → Ts → Shard
+abbrev pub committed_as : (one_dir : Bool) → Shard → DirId → List ℕ → (to_dir : DirId) → Node → (old : List Node)
+    → Ts → Shard
 committed_as true s dir name to_dir node old ts =
     update (given_up s dir name) to_dir (node ∷ []) (old ++ nodes_in (get s.rows (row_key dir name))) ts
     (get s.recs to_dir.0)
@@ -92,4 +93,5 @@ rebased s child back true (Some r) =
     changed (answer.Done None) (set_rec s child (record r { back = Some back; lock = None }))
 
 abbrev pub rebase : Shard → JobNo → DirId → DirId → List ℕ → Served Shard
-rebase s job child dir name = rebased s child (dir, name) (is_job job (holder (get s.recs child.0))) (get s.recs child.0)
+rebase s job child dir name =
+    rebased s child (dir, name) (is_job job (holder (get s.recs child.0))) (get s.recs child.0)

@@ -93,7 +93,8 @@ all_out members roster = list_all (λ c. is_out roster (client_of c)) members
 
 -- the round that began at this step is over: the collector is to begin one, or has begun another
 abbrev pub IsOver : World → (first : ℕ) → Type 0
-IsOver w first = (w.actors.round ≡ Starting) ⊎ (newest (λ e. is_by_collector e.actor && is_stopped e.ask) w.run ≢ Some first)
+IsOver w first =
+    (w.actors.round ≡ Starting) ⊎ (newest (λ e. is_by_collector e.actor && is_stopped e.ask) w.run ≢ Some first)
 
 abbrev pub NothingLeft : List ℕ → World → Type 0
 NothingLeft members w =

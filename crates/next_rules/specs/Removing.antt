@@ -34,7 +34,8 @@ marked s note (Some r) None false mark inner rows = unmoved s answer.Gone
 marked s note (Some r) None true (Some other) inner rows = unmoved s (answer.Leaving other)
 marked s note (Some r) None true None (Some job) rows = unmoved s (answer.Locked job)
 marked s note (Some r) None true None None true = unmoved s answer.NotEmpty
-marked s note (Some r) None true None None false = changed (answer.Done None) (set_rec s note.child (record r { mark = Some note }))
+marked s note (Some r) None true None None false =
+    changed (answer.Done None) (set_rec s note.child (record r { mark = Some note }))
 
 abbrev pub mark_rec : Shard → MarkNote → Served Shard
 mark_rec s note =

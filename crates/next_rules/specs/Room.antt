@@ -77,7 +77,8 @@ deciding_job s dir = first_job (filter (λ e. may_leave s dir e || may_come e) (
 -- a file needs no link
 abbrev pub room_in : Shard → DirId → Node → Room
 room_in s dir (File file) = HasRoom
-room_in s dir (Dir child) = room_of (links_in (get s.recs dir.0)) (leaving_in s dir) (coming_in s dir) (deciding_job s dir)
+room_in s dir (Dir child) =
+    room_of (links_in (get s.recs dir.0)) (leaving_in s dir) (coming_in s dir) (deciding_job s dir)
 
 abbrev pub room_lock : Room → Option JobNo
 room_lock HasRoom = None

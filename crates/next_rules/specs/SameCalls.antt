@@ -14,5 +14,6 @@ is_call (Mkdir dir name) (Mkdir d n) = is_one_name dir name d n
 is_call (Unlink dir name) (Unlink d n) = is_one_name dir name d n
 is_call (Rmdir dir name) (Rmdir d n) = is_one_name dir name d n
 is_call (Truncate file size) (Truncate f s) = (file.0 == f.0) && (size == s)
-is_call (Rename dir name to_dir to_name) (Rename d n td tn) = is_one_name dir name d n && is_one_name to_dir to_name td tn
+is_call (Rename dir name to_dir to_name) (Rename d n td tn) =
+    is_one_name dir name d n && is_one_name to_dir to_name td tn
 is_call a b = false

@@ -41,10 +41,12 @@ home_in (Some back) = back.0
 
 abbrev pub owed_item : PlaceNo → List Client → Node → Option Client → (home : DirId) → List Stray
 owed_item at clients node None home = []
-owed_item at clients node (Some owner) home = listed_if (lies_here at node && holds clients owner) (Owed node owner home)
+owed_item at clients node (Some owner) home =
+    listed_if (lies_here at node && holds clients owner) (Owed node owner home)
 
 abbrev pub owed_dirs : Shard → PlaceNo → List Client → List Stray
-owed_dirs s at clients = flat_map (λ e. owed_item at clients (dir_of_number e.0) e.1.owner (home_in e.1.back)) (entries s.recs)
+owed_dirs s at clients =
+    flat_map (λ e. owed_item at clients (dir_of_number e.0) e.1.owner (home_in e.1.back)) (entries s.recs)
 
 abbrev pub owed_files : Store → PlaceNo → List Client → List Stray
 owed_files s at clients = flat_map (λ e. owed_item at clients (file_of_number e.0) e.1.owner e.1.home) (entries s)
@@ -68,11 +70,13 @@ debts_left s at clients = flat_map (λ e. debt_item clients (node_of_key e.0) e.
 
 -- ---- Strays: owned records, marks, debts, each by rising number, and files before directories
 abbrev pub shard_strays : Shard → PlaceNo → List Client → Answer
-shard_strays s at clients = answer.Strays (owed_dirs s at clients ++ (marked_dirs s at clients ++ debts_left s at clients))
+shard_strays s at clients =
+    answer.Strays (owed_dirs s at clients ++ (marked_dirs s at clients ++ debts_left s at clients))
 
 abbrev pub store_strays : Store → PlaceNo → List Client → Answer
 store_strays s at clients = answer.Strays (owed_files s at clients)
 
 -- ---- Names: a row of the directory, locked or not, names the node
 abbrev pub names_answer : Shard → DirId → Node → Answer
-names_answer s dir node = if list_any (λ e. lies_in dir.0 e.0 && is_node node e.1.node) (entries s.rows) then answer.Yes else answer.No
+names_answer s dir node =
+    if list_any (λ e. lies_in dir.0 e.0 && is_node node e.1.node) (entries s.rows) then answer.Yes else answer.No

@@ -19,7 +19,8 @@ is_out roster client = holds roster.stopped client || holds roster.ended client
 
 -- the records with an owner
 abbrev pub owed_in : Service → ℕ
-owed_in v = how_many (λ e. is_some e.1.owner) (entries v.shard.recs) + how_many (λ e. is_some e.1.owner) (entries v.store)
+owed_in v =
+    how_many (λ e. is_some e.1.owner) (entries v.shard.recs) + how_many (λ e. is_some e.1.owner) (entries v.store)
 
 abbrev pub debts_in : Service → ℕ
 debts_in v = length (entries v.shard.debts)

@@ -21,7 +21,8 @@ use Rattle.next_steps.specs.Writers.{ask_writing, heard_put, heard_delete, heard
 use Rattle.next_steps.specs.Removers.{ask_removing, heard_name, heard_removing, begun_removing}
 
 -- a rename in one directory is the shard's, as long as it is no directory's
-abbrev pub first_rename : Client → (last : Ts) → (dir : DirId) → (name : Bytes ℕ) → (to_dir : DirId) → (to_name : Bytes ℕ) → Ask
+abbrev pub first_rename : Client → (last : Ts) → (dir : DirId) → (name : Bytes ℕ) → (to_dir : DirId)
+    → (to_name : Bytes ℕ) → Ask
 first_rename client last dir name to_dir to_name =
     if dir.0 == to_dir.0
     then ask.Swap client dir name to_name last

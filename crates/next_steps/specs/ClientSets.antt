@@ -14,4 +14,5 @@ holds (c ∷ cs) client = (c.0 == client.0) || holds cs client
 -- the list with the client at its place; a client that is in it already stands there once
 abbrev pub entered : List Client → Client → List Client
 entered [] client = client ∷ []
-entered (c ∷ cs) client = if c.0 == client.0 then c ∷ cs else (if nat_lt client.0 c.0 then client ∷ c ∷ cs else c ∷ entered cs client)
+entered (c ∷ cs) client =
+    if c.0 == client.0 then c ∷ cs else (if nat_lt client.0 c.0 then client ∷ c ∷ cs else c ∷ entered cs client)

@@ -21,7 +21,15 @@ is_stamp s t = (s.number == t.number) && (s.place.0 == t.place.0)
 
 -- the call ends at the step `last` without a move of its own
 abbrev pub replied : Call → (first : Stamp) → At → (last : Stamp) → Reply → Phase
-replied call first at last reply = Finished (record { call = call; first = first; at = at; last = last; reply = reply; ts = start; made = None })
+replied call first at last reply = Finished (record {
+  call = call;
+  first = first;
+  at = at;
+  last = last;
+  reply = reply;
+  ts = start;
+  made = None;
+})
 
 -- the step s tells the reply, which holds before it
 abbrev pub told : Call → (first s : Stamp) → Reply → Phase
@@ -29,7 +37,15 @@ told call first s reply = replied call first (Before s) s reply
 
 -- the call ends at the step `last` with its move, which was made at the step `at`
 abbrev pub moved : Call → Ts → Option Node → (first at last : Stamp) → Phase
-moved call ts made first at last = Finished (record { call = call; first = first; at = Step at; last = last; reply = Moved; ts = ts; made = made })
+moved call ts made first at last = Finished (record {
+  call = call;
+  first = first;
+  at = Step at;
+  last = last;
+  reply = Moved;
+  ts = ts;
+  made = made;
+})
 
 -- the time of a reply that a job gave
 abbrev pub ts_for : Reply → Ts → Ts
@@ -38,4 +54,12 @@ ts_for reply ts = start
 
 -- the call ends at the step `last` as its job did
 abbrev pub answered : Call → Ts → (first last : Stamp) → Reply → At → Phase
-answered call ts first last reply at = Finished (record { call = call; first = first; at = at; last = last; reply = reply; ts = ts_for reply ts; made = None })
+answered call ts first last reply at = Finished (record {
+  call = call;
+  first = first;
+  at = at;
+  last = last;
+  reply = reply;
+  ts = ts_for reply ts;
+  made = None;
+})

@@ -1,5 +1,5 @@
 -- What the Renamer asks next in its job.
-use Rattle.std.specs.Prelude.{Bool, true, false, not, ◌==◌, ◌&&◌}
+use Rattle.std.specs.Prelude.{Bool, false, not, ◌==◌, ◌&&◌}
 use Rattle.next_ids.specs.declared.ids.Kind.TheVariants.{Moving, Replacing}
 use Rattle.next_ids.specs.declared.ids.Side.TheVariants.{Source, Target}
 use Rattle.next_ids.specs.declared.ids.Node.{Node}

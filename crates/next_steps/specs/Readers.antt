@@ -74,12 +74,14 @@ heard_look dir name child first s _ = Reads (StatLooking dir name child first)
 
 -- the record of a file
 abbrev pub heard_get : DirId → Bytes ℕ → FileId → (row first s : Stamp) → Answer → Phase
-heard_get dir name file row first s (answer.File size time) = Reads (StatChecking dir name file row (Some (size, time)) s first)
+heard_get dir name file row first s (answer.File size time) =
+    Reads (StatChecking dir name file row (Some (size, time)) s first)
 heard_get dir name file row first s answer.None = Reads (StatChecking dir name file row None s first)
 heard_get dir name file row first s _ = Reads (StatGetting dir name file row first)
 
 -- the row once more: what was got holds where the row is still the same one
-abbrev pub heard_check : DirId → Bytes ℕ → FileId → (row : Stamp) → Option (ℕ × Ts) → (got first s : Stamp) → Answer → Phase
+abbrev pub heard_check : DirId → Bytes ℕ → FileId → (row : Stamp) → Option (ℕ × Ts) → (got first s : Stamp)
+    → Answer → Phase
 heard_check dir name file row (Some found) got first s (answer.Found (File other) again) =
     if (other.0 == file.0) && is_stamp again row
     then replied (call.Stat dir name) first (Before got) s (reply.FileStat found.0 found.1)

@@ -65,7 +65,10 @@ shard_done counts v = Listing (record { clients = v.clients; place = after_shard
 
 -- after the last store the next round begins
 abbrev pub store_done : Counts → Visit → RoundPhase
-store_done counts v = if nat_lt (suc v.place) (64 + counts.stores) then Listing (record { clients = v.clients; place = suc v.place }) else Starting
+store_done counts v =
+    if nat_lt (suc v.place) (64 + counts.stores)
+    then Listing (record { clients = v.clients; place = suc v.place })
+    else Starting
 
 -- ---- what it makes of the answer
 -- a shard merges once its items are done

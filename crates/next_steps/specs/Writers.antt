@@ -79,21 +79,27 @@ heard_size file size ts s answer.None = told (call.Truncate file size) s s (repl
 heard_size file size ts s _ = Asking (call.Truncate file size)
 
 -- a rename: the answers of a Swap, and that of a Submit
-abbrev pub heard_rename : (dir : DirId) → (name : Bytes ℕ) → (to_dir : DirId) → (to_name : Bytes ℕ) → (ts : Ts) → (s : Stamp)
+abbrev pub heard_rename : (dir : DirId) → (name : Bytes ℕ) → (to_dir : DirId) → (to_name : Bytes ℕ) → (ts : Ts)
+    → (s : Stamp)
     → Answer → Phase
 heard_rename dir name to_dir to_name ts s (answer.Done None) = moved (call.Rename dir name to_dir to_name) ts None s s s
-heard_rename dir name to_dir to_name ts s (answer.Done (Some (File file))) = Writes (Dropping (call.Rename dir name to_dir to_name) file ts s s)
+heard_rename dir name to_dir to_name ts s (answer.Done (Some (File file))) =
+    Writes (Dropping (call.Rename dir name to_dir to_name) file ts s s)
 heard_rename dir name to_dir to_name ts s answer.Same = told (call.Rename dir name to_dir to_name) s s reply.Kept
-heard_rename dir name to_dir to_name ts s answer.Absent = told (call.Rename dir name to_dir to_name) s s (reply.Refused Enoent)
-heard_rename dir name to_dir to_name ts s answer.TargetIsDir = told (call.Rename dir name to_dir to_name) s s (reply.Refused Eisdir)
-heard_rename dir name to_dir to_name ts s (answer.Locked job) = told (call.Rename dir name to_dir to_name) s s (reply.Busy job)
+heard_rename dir name to_dir to_name ts s answer.Absent =
+    told (call.Rename dir name to_dir to_name) s s (reply.Refused Enoent)
+heard_rename dir name to_dir to_name ts s answer.TargetIsDir =
+    told (call.Rename dir name to_dir to_name) s s (reply.Refused Eisdir)
+heard_rename dir name to_dir to_name ts s (answer.Locked job) =
+    told (call.Rename dir name to_dir to_name) s s (reply.Busy job)
 heard_rename dir name to_dir to_name ts s answer.SourceIsDir = Writes (Submitting dir name to_dir to_name ts s)
 heard_rename dir name to_dir to_name ts s (answer.Submitted job) = Writes (Collecting dir name to_dir to_name job ts s)
 heard_rename dir name to_dir to_name ts s _ = Asking (call.Rename dir name to_dir to_name)
 
 abbrev pub heard_submit : (dir : DirId) → (name : Bytes ℕ) → (to_dir : DirId) → (to_name : Bytes ℕ) → (ts : Ts)
     → (first : Stamp) → Answer → Phase
-heard_submit dir name to_dir to_name ts first (answer.Submitted job) = Writes (Collecting dir name to_dir to_name job ts first)
+heard_submit dir name to_dir to_name ts first (answer.Submitted job) =
+    Writes (Collecting dir name to_dir to_name job ts first)
 heard_submit dir name to_dir to_name ts first _ = Writes (Submitting dir name to_dir to_name ts first)
 
 -- the job's reply, and its point, are the call's
@@ -104,7 +110,8 @@ heard_collect phase c ts first s _ = Writes phase
 abbrev pub heard_writing : WriterPhase → (s : Stamp) → Answer → Phase
 heard_writing (Inserting dir name node ts first) s a = heard_insert dir name node ts first s a
 heard_writing (Settling dir name node ts first at) s a = moved (maker dir name node) ts (Some node) first at s
-heard_writing (MakeHelping dir name node note first) s a = Writes (TakingBack dir name node (reply.Refused Enoent) (After s) first)
+heard_writing (MakeHelping dir name node note first) s a =
+    Writes (TakingBack dir name node (reply.Refused Enoent) (After s) first)
 heard_writing (TakingBack dir name node reply at first) s a = replied (maker dir name node) first at s reply
 heard_writing (Dropping c file ts first at) s a = Writes (Clearing c file ts first at)
 heard_writing (Clearing c file ts first at) s a = moved c ts None first at s
