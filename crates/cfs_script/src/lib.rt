@@ -10,8 +10,6 @@ mod lists;
 mod read;
 mod reading;
 mod script;
-#[cfg(test)]
-mod tests;
 mod turns;
 
 pub use cfs_grammar::Fault;
