@@ -106,26 +106,23 @@ pub fn made_of(call: &Call) -> Made {
     }
 }
 
-// So many rows of the file 64, each named x.
-fn rows_of(alloc: Global, count: usize) -> Result<Reply, NoMemory> {
+// One row, of the file 64 named x.
+fn one_row(alloc: Global) -> Result<Reply, NoMemory> {
     let mut rows = RowList::new(alloc);
-    for _ in 0..count {
-        let row = (named(alloc, b'x')?, Node::File(FileId(64)));
-        if rows.push(row).is_err() {
-            return Err(NoMemory);
-        }
+    match rows.push((named(alloc, b'x')?, Node::File(FileId(64)))) {
+        Ok(()) => Ok(Reply::Rows(rows)),
+        Err(_) => Err(NoMemory),
     }
-    Ok(Reply::Rows(rows))
 }
 
-/// The reply of a row.
+/// The reply of a row; rows are one row.
 pub fn reply_of(alloc: Global, told: Told) -> Result<Reply, NoMemory> {
     Ok(match told {
         Told::Moved => Reply::Moved,
         Told::Kept => Reply::Kept,
         Told::Dir(number) => Reply::Node(Node::Dir(DirId(number))),
         Told::File(number) => Reply::Node(Node::File(FileId(number))),
-        Told::Rows(count) => rows_of(alloc, count)?,
+        Told::Rows(_) => one_row(alloc)?,
         Told::DirStat(children, links, time) => Reply::DirStat {
             children,
             links,
