@@ -1,0 +1,339 @@
+//! The sequential namespace: calls one after the other, with the replies that POSIX's rules give, and its parts.
+ghost use Rattle.std.specs.Prelude.{◌≡◌, IsTrue};
+ghost use Rattle.cfs_ids.specs.declared.call.Reply.TheVariants.{Moved};
+ghost use Rattle.cfs_ids.specs.Namespace.{answer, IsDefined, IsWhole};
+
+use crate::calls::Made::{
+    Create, List, Lookup, Mkdir, Rename, Rmdir, Stat, StatRoot, Truncate, Unlink,
+};
+use crate::calls::Told::{Dir, DirStat, File, FileStat, Kept, Moved, Refused, Rows};
+use crate::calls::{Made, Told, call_of, named, told_of};
+use Row::{Makes, Says};
+use cfs_ids::Errno::{Eexist, Einval, Eisdir, Enoent, Enotdir, Enotempty, Eperm};
+use cfs_ids::{Call, DirId, FileId, NoMemory, Node, Reply, Ts};
+use cfs_tree::Namespace;
+use std::alloc::Global;
+
+/// A call at a time: what it is answered, or the number of what its move makes.
+#[derive(Clone, Copy)]
+enum Row {
+    Says(Ts, Made, Told),
+    Makes(Ts, Made, u64),
+}
+
+// What is not there is refused.
+const ABSENT: [Row; 18] = [
+    Says(1, List(0), Rows(0)),
+    Says(1, StatRoot, DirStat(0, 2, 0)),
+    Says(1, Lookup(0, b'a'), Refused(Enoent)),
+    Says(1, Lookup(7, b'a'), Refused(Enoent)),
+    Says(1, List(7), Refused(Enoent)),
+    Says(1, Stat(0, b'a'), Refused(Enoent)),
+    Says(1, Stat(7, b'a'), Refused(Enoent)),
+    Says(1, Create(7, b'a'), Refused(Enoent)),
+    Says(1, Mkdir(7, b'a'), Refused(Enoent)),
+    Says(1, Unlink(0, b'a'), Refused(Enoent)),
+    Says(1, Unlink(7, b'a'), Refused(Enoent)),
+    Says(1, Rmdir(0, b'a'), Refused(Enoent)),
+    Says(1, Rmdir(7, b'a'), Refused(Enoent)),
+    Says(1, Truncate(11, 5), Refused(Enoent)),
+    Says(1, Rename(0, b'a', 0, b'b'), Refused(Enoent)),
+    Says(1, Rename(0, b'a', 0, b'a'), Refused(Enoent)),
+    Says(1, Rename(7, b'a', 0, b'b'), Refused(Enoent)),
+    Says(1, Rename(0, b'a', 7, b'b'), Refused(Enoent)),
+];
+
+// Files are made, cut and unlinked.
+const FILES: [Row; 23] = [
+    Makes(3, Create(0, b'a'), 11),
+    Says(4, Create(0, b'a'), Refused(Eexist)),
+    Says(4, Mkdir(0, b'a'), Refused(Eexist)),
+    Says(4, Lookup(0, b'a'), File(11)),
+    Says(4, Stat(0, b'a'), FileStat(0, 3)),
+    Says(4, StatRoot, DirStat(1, 2, 3)),
+    Says(4, List(0), Rows(1)),
+    Says(4, Rmdir(0, b'a'), Refused(Enotdir)),
+    Says(5, Truncate(11, 100), Moved),
+    Says(5, Stat(0, b'a'), FileStat(100, 5)),
+    Says(4, Truncate(11, 7), Moved),
+    Says(5, Stat(0, b'a'), FileStat(7, 5)),
+    Says(5, StatRoot, DirStat(1, 2, 3)),
+    Says(6, Unlink(0, b'a'), Moved),
+    Says(6, Lookup(0, b'a'), Refused(Enoent)),
+    Says(6, Stat(0, b'a'), Refused(Enoent)),
+    Says(6, StatRoot, DirStat(0, 2, 6)),
+    Says(7, Truncate(11, 9), Moved),
+    Says(7, Unlink(0, b'a'), Refused(Enoent)),
+    Makes(2, Create(0, b'a'), 12),
+    Says(8, StatRoot, DirStat(1, 2, 6)),
+    Says(8, Stat(0, b'a'), FileStat(0, 2)),
+    Says(8, Truncate(13, 0), Refused(Enoent)),
+];
+
+// The same after file 11, which has no name, was forgotten.
+const FORGOTTEN: [Row; 2] = [
+    Says(9, Truncate(11, 0), Refused(Enoent)),
+    Says(9, Lookup(0, b'a'), File(12)),
+];
+
+// Directories are made and removed.
+const DIRECTORIES: [Row; 25] = [
+    Makes(1, Mkdir(0, b'd'), 1),
+    Says(1, StatRoot, DirStat(1, 3, 1)),
+    Says(2, Mkdir(0, b'd'), Refused(Eexist)),
+    Says(2, Create(0, b'd'), Refused(Eexist)),
+    Says(2, Lookup(0, b'd'), Dir(1)),
+    Says(2, Stat(0, b'd'), DirStat(0, 2, 1)),
+    Says(2, List(1), Rows(0)),
+    Says(2, Unlink(0, b'd'), Refused(Eperm)),
+    Makes(3, Create(1, b'a'), 11),
+    Says(3, Stat(0, b'd'), DirStat(1, 2, 3)),
+    Says(3, StatRoot, DirStat(1, 3, 1)),
+    Says(3, Rmdir(0, b'd'), Refused(Enotempty)),
+    Makes(4, Mkdir(1, b'e'), 2),
+    Says(4, Stat(0, b'd'), DirStat(2, 3, 4)),
+    Says(4, List(1), Rows(2)),
+    Says(5, Rmdir(1, b'e'), Moved),
+    Says(5, List(2), Refused(Enoent)),
+    Says(5, Create(2, b'a'), Refused(Enoent)),
+    Says(5, Stat(0, b'd'), DirStat(1, 2, 5)),
+    Says(6, Rmdir(0, b'd'), Refused(Enotempty)),
+    Says(7, Unlink(1, b'a'), Moved),
+    Says(8, Rmdir(0, b'd'), Moved),
+    Says(8, StatRoot, DirStat(0, 2, 8)),
+    Says(8, Rmdir(0, b'd'), Refused(Enoent)),
+    Says(8, List(1), Refused(Enoent)),
+];
+
+// Files are renamed, and one takes the place of another.
+const FILES_RENAMED: [Row; 24] = [
+    Makes(1, Create(0, b'a'), 11),
+    Makes(1, Create(0, b'b'), 12),
+    Makes(2, Mkdir(0, b'd'), 1),
+    Makes(3, Create(1, b'c'), 13),
+    Says(4, Rename(0, b'a', 0, b'a'), Kept),
+    Says(4, StatRoot, DirStat(3, 3, 2)),
+    Says(4, Rename(0, b'x', 0, b'a'), Refused(Enoent)),
+    Says(4, Rename(0, b'a', 9, b'a'), Refused(Enoent)),
+    Says(4, Rename(0, b'a', 0, b'd'), Refused(Eisdir)),
+    Says(5, Rename(0, b'a', 1, b'e'), Moved),
+    Says(5, Lookup(0, b'a'), Refused(Enoent)),
+    Says(5, Lookup(1, b'e'), File(11)),
+    Says(5, StatRoot, DirStat(2, 3, 5)),
+    Says(5, Stat(0, b'd'), DirStat(2, 2, 5)),
+    Says(5, Stat(1, b'e'), FileStat(0, 1)),
+    Says(6, Rename(1, b'c', 0, b'b'), Moved),
+    Says(6, Lookup(0, b'b'), File(13)),
+    Says(6, Truncate(12, 4), Moved),
+    Says(6, StatRoot, DirStat(2, 3, 6)),
+    Says(6, Stat(0, b'd'), DirStat(1, 2, 6)),
+    Says(3, Rename(0, b'b', 0, b'z'), Moved),
+    Says(6, StatRoot, DirStat(2, 3, 6)),
+    Says(6, Lookup(0, b'z'), File(13)),
+    Says(6, List(0), Rows(2)),
+];
+
+// Directories are not renamed into themselves, nor onto what is not an empty directory.
+const NOT_BELOW_ITSELF: [Row; 17] = [
+    Makes(1, Mkdir(0, b'a'), 1),
+    Makes(2, Mkdir(1, b'b'), 2),
+    Makes(3, Mkdir(2, b'c'), 3),
+    Makes(4, Mkdir(0, b'e'), 4),
+    Makes(5, Create(0, b'f'), 11),
+    Says(6, Rename(0, b'a', 0, b'a'), Kept),
+    Says(6, Rename(0, b'a', 0, b'f'), Refused(Enotdir)),
+    Says(6, Rename(0, b'f', 0, b'a'), Refused(Eisdir)),
+    Says(6, Rename(0, b'a', 9, b'x'), Refused(Enoent)),
+    Says(6, Rename(0, b'e', 0, b'a'), Refused(Enotempty)),
+    // Into itself and below, with the new name free.
+    Says(6, Rename(0, b'a', 1, b'x'), Refused(Einval)),
+    Says(6, Rename(0, b'a', 3, b'x'), Refused(Einval)),
+    // Onto its child, which has a name; onto a directory below that has none; onto the one it is in, and one above.
+    Says(6, Rename(0, b'a', 1, b'b'), Refused(Enotempty)),
+    Says(6, Rename(0, b'a', 2, b'c'), Refused(Einval)),
+    Says(6, Rename(1, b'b', 0, b'a'), Refused(Enotempty)),
+    Says(6, Rename(2, b'c', 0, b'a'), Refused(Enotempty)),
+    Says(6, StatRoot, DirStat(3, 4, 5)),
+];
+
+// Renamed directories take what is below along.
+const DIRECTORIES_RENAMED: [Row; 26] = [
+    Makes(1, Mkdir(0, b'a'), 1),
+    Makes(2, Mkdir(1, b'b'), 2),
+    Makes(3, Mkdir(2, b'c'), 3),
+    Makes(4, Mkdir(0, b'e'), 4),
+    Says(7, Rename(0, b'e', 3, b'e'), Moved),
+    Says(7, Lookup(3, b'e'), Dir(4)),
+    Says(7, StatRoot, DirStat(1, 3, 7)),
+    Says(7, Stat(2, b'c'), DirStat(1, 3, 7)),
+    Says(8, Rename(1, b'b', 0, b'b'), Moved),
+    Says(8, Stat(0, b'a'), DirStat(0, 2, 8)),
+    Says(8, Stat(0, b'b'), DirStat(1, 3, 3)),
+    Says(8, StatRoot, DirStat(2, 4, 8)),
+    // Onto an empty directory, which goes.
+    Says(9, Rename(0, b'b', 0, b'a'), Moved),
+    Says(9, Lookup(0, b'a'), Dir(2)),
+    Says(9, List(1), Refused(Enoent)),
+    Says(9, StatRoot, DirStat(1, 3, 9)),
+    Says(9, Rename(0, b'a', 4, b'x'), Refused(Einval)),
+    Says(10, Rename(3, b'e', 0, b'g'), Moved),
+    Says(10, Rename(0, b'a', 4, b'x'), Moved),
+    Says(10, Lookup(4, b'x'), Dir(2)),
+    Says(10, Rename(0, b'g', 3, b'x'), Refused(Einval)),
+    Says(11, Rmdir(2, b'c'), Moved),
+    Says(11, Rmdir(0, b'g'), Refused(Enotempty)),
+    Says(12, Rmdir(4, b'x'), Moved),
+    Says(13, Rmdir(0, b'g'), Moved),
+    Says(13, StatRoot, DirStat(0, 2, 13)),
+];
+
+// The node that the call of a row makes.
+fn node_of(made: Made, number: u64) -> Option<Node> {
+    match made {
+        Create(..) => Some(Node::File(FileId(number))),
+        Mkdir(..) => Some(Node::Dir(DirId(number))),
+        _ => None,
+    }
+}
+
+// Whether the node is one that the call may make, where it moves.
+fn fits(namespace: &Namespace, call: &Call, made: Option<Node>) -> bool
+    ensures { IsTrue result → answer namespace.now call.now ≡ Moved → IsDefined namespace.now call.now made }
+{
+    match (call, made) {
+        (Call::Create { .. }, Some(Node::File(file))) => namespace.file(file).is_none(),
+        (Call::Mkdir { .. }, Some(Node::Dir(dir))) => namespace.directory(dir).is_none(),
+        (Call::Unlink { .. }, None) => true,
+        (Call::Rmdir { .. }, None) => true,
+        (Call::Truncate { .. }, None) => true,
+        (Call::Rename { .. }, None) => true,
+        _ => false,
+    }
+}
+
+// The reply to the call, whose move is made if it has one.
+fn reply_to(
+    alloc: Global,
+    namespace: &mut Namespace,
+    call: &Call,
+    made: Option<Node>,
+    time: Ts,
+) -> Result<Reply, NoMemory>
+    requires { IsWhole namespace.old }
+    ensures { IsWhole namespace.new }
+{
+    let reply = namespace.answer(alloc, call)?;
+    if let Reply::Moved = &reply {
+        if fits(namespace, call, made) {
+            namespace.apply(call, made, time)?;
+        }
+    }
+    Ok(reply)
+}
+
+// Whether the call of a row is answered as the row says.
+fn is_answered(alloc: Global, namespace: &mut Namespace, row: Row) -> Result<bool, NoMemory>
+    requires { IsWhole namespace.old }
+    ensures { IsWhole namespace.new }
+{
+    let (time, made, number, told) = match row {
+        Says(time, made, told) => (time, made, 0, told),
+        Makes(time, made, number) => (time, made, number, Moved),
+    };
+    let call = call_of(alloc, made)?;
+    let reply = reply_to(alloc, namespace, &call, node_of(made, number), time)?;
+    Ok(told_of(&reply) == told)
+}
+
+// The index of the first row that isn't answered so.
+fn first_otherwise(
+    alloc: Global,
+    namespace: &mut Namespace,
+    rows: &[Row],
+) -> Result<Option<usize>, NoMemory>
+    requires { IsWhole namespace.old }
+    ensures { IsWhole namespace.new }
+{
+    for (i, row) in rows.iter().enumerate() {
+        if !is_answered(alloc, namespace, *row)? {
+            return Ok(Some(i));
+        }
+    }
+    Ok(None)
+}
+
+#[test]
+fn calls_are_answered_as_posix_says(rt: HostRuntime) -> Result<(), NoMemory> {
+    let tables = [
+        ("absent", ABSENT.as_slice()),
+        ("directories", DIRECTORIES.as_slice()),
+        ("directories renamed", DIRECTORIES_RENAMED.as_slice()),
+    ];
+    for (table, rows) in tables {
+        let mut namespace = Namespace::empty_root(rt.alloc())?;
+        let otherwise = first_otherwise(rt.alloc(), &mut namespace, rows)?;
+        assert_eq!(rt; otherwise, None, "{table}");
+    }
+    Ok(())
+}
+
+#[test]
+fn files_are_forgotten_that_have_no_name(rt: HostRuntime) -> Result<(), NoMemory> {
+    let mut namespace = Namespace::empty_root(rt.alloc())?;
+    let otherwise = first_otherwise(rt.alloc(), &mut namespace, &FILES)?;
+    assert!(rt; otherwise.is_none(), "{otherwise:?}");
+    assert!(rt; namespace.forget(FileId(11)));
+    let otherwise = first_otherwise(rt.alloc(), &mut namespace, &FORGOTTEN)?;
+    assert!(rt; otherwise.is_none(), "{otherwise:?}");
+    let mut namespace = Namespace::empty_root(rt.alloc())?;
+    let otherwise = first_otherwise(rt.alloc(), &mut namespace, &FILES_RENAMED)?;
+    assert!(rt; otherwise.is_none(), "{otherwise:?}");
+    let forgotten = (namespace.forget(FileId(12)), namespace.forget(FileId(13)));
+    assert!(rt; forgotten == (true, false));
+    Ok(())
+}
+
+#[test]
+fn directories_lie_below_themselves_and_those_above(rt: HostRuntime) -> Result<(), NoMemory> {
+    let mut namespace = Namespace::empty_root(rt.alloc())?;
+    let otherwise = first_otherwise(rt.alloc(), &mut namespace, &NOT_BELOW_ITSELF)?;
+    assert!(rt; otherwise.is_none(), "{otherwise:?}");
+    let below = [
+        namespace.is_below(DirId(1), DirId(3)),
+        namespace.is_below(DirId(3), DirId(3)),
+        namespace.is_below(DirId(3), DirId(1)),
+    ];
+    assert!(rt; below == [true, true, false]);
+    Ok(())
+}
+
+// The root with a file 64 named a and a directory 64 named b, and a file 128 without a name.
+fn with_parts(alloc: Global) -> Result<Namespace, NoMemory> {
+    let (a, b) = (named(alloc, b'a')?, named(alloc, b'b')?);
+    let mut namespace = Namespace::empty_root(alloc)?;
+    if namespace.counts(DirId(0)).is_some() {
+        namespace.add_row(DirId(0), a, Node::File(FileId(64)))?;
+    }
+    if namespace.counts(DirId(0)).is_some() {
+        namespace.add_row(DirId(0), b, Node::Dir(DirId(64)))?;
+    }
+    namespace.add_dir(alloc, DirId(64), 4)?;
+    namespace.add_file(FileId(64), 0, 3)?;
+    namespace.add_file(FileId(128), 2, 5)?;
+    Ok(namespace)
+}
+
+#[test]
+fn parts_are_added_and_read(rt: HostRuntime) -> Result<(), NoMemory> {
+    let namespace = with_parts(rt.alloc())?;
+    assert!(rt; namespace.counts(DirId(0)) == Some((2, 3)));
+    assert!(rt; namespace.next_dir(Some(DirId(0))) == Some((DirId(64), 4)));
+    assert!(rt; namespace.next_file(None) == Some((FileId(64), 0, 3)));
+    assert!(rt; namespace.next_file(Some(FileId(64))) == Some((FileId(128), 2, 5)));
+    let row = namespace.next_row(DirId(0), None);
+    assert!(rt; row.is_some_and(|row| row.1 == Node::File(FileId(64))));
+    assert!(rt; namespace.is_named(FileId(64)) && !namespace.is_named(FileId(128)));
+    assert!(rt; namespace.same(&with_parts(rt.alloc())?));
+    assert!(rt; !namespace.same(&Namespace::empty_root(rt.alloc())?));
+    Ok(())
+}
