@@ -9,8 +9,8 @@ use Rattle.cfs_rules.specs.Histories.{lines_of, world_history}
 use Rattle.cfs_rules.specs.Legal.{Each, IsLegal, final}
 use Rattle.cfs_rules.specs.Trees.{tree, owed_in, strays_in}
 use Rattle.cfs_rules.specs.Worlds.{World, Counts, calls_of, client_of, played}
-use Rattle.cfs_laws.specs.EachLine.{HasEachLine}
-use Rattle.cfs_laws_lines.specs.OwnSteps.{HasOwnEnds, IsInALine, steps_at}
+use Rattle.cfs_laws_history.specs.EachLine.{HasEachLine}
+use Rattle.cfs_laws_order.specs.OwnSteps.{HasOwnEnds, IsInALine, steps_at}
 use Rattle.cfs_steps.specs.declared.call_done.ClientCalls.{ClientCalls}
 use Rattle.cfs_walk.specs.declared.command.Command.{Command}
 use Rattle.cfs_core.specs.Clients.{number_in}
