@@ -4,7 +4,7 @@ ghost use Rattle.std.specs.List.{list_all};
 ghost use Rattle.cfs_ids.specs.Names.{is_allowed};
 ghost use Rattle.cfs_steps.specs.Phases.{answers_first};
 ghost use Rattle.cfs_rules.specs.Worlds.{hears, starts};
-ghost use Rattle.cfs_script.specs.Built.{is_built};
+ghost use Rattle.cfs_setup.specs.Built.{is_built};
 ghost use Rattle.cfs_actor.specs.Clients.{progress_of, is_settled};
 ghost use Rattle.cfs_actor.specs.Plans.{plan_of};
 ghost use Rattle.cfs_actor.specs.States.{answers_now};

@@ -1,6 +1,6 @@
 //! Which commands are built.
 ghost use Rattle.std.specs.Prelude.{◌≡◌};
-ghost use Rattle.cfs_script.specs.Built.{is_built};
+ghost use Rattle.cfs_setup.specs.Built.{is_built};
 
 use cfs_walk::Command;
 
