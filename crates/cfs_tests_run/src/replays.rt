@@ -2,7 +2,7 @@
 ghost use Rattle.std.specs.Prelude.{◌<◌};
 
 use cfs_io::{MemSink, MemSource, SureSink};
-use cfs_run::{FreeGate, Status, cfs_words, replay, replay_bytes};
+use cfs_run::{FreeGate, Status, cfs_words, replay};
 use cfs_script::Fault;
 use std::process::Abort;
 use std::sync::Wait;
@@ -58,17 +58,6 @@ fn a_command_that_ends_before_its_run(rt: HostRuntime) -> Result<(), Fail> {
         let outcome = outcome_of(&rt, &["replay"], script, fails)?;
         assert_eq!(rt; outcome, want, "at {script}");
     }
-    Ok(())
-}
-
-#[test]
-fn bytes_that_no_device_fails_on(rt: HostRuntime) -> Result<(), Fail> {
-    let short = Vec::from_slice(rt.alloc(), b"places 1")?;
-    let line = 1;
-    let fault = Fault::BadCommand;
-    let status = replay_bytes(rt.alloc(), short);
-    assert_eq!(rt; status, Status::Script { line, fault });
-    assert_eq!(rt; Status::ReadFault.code(), 4);
     Ok(())
 }
 
