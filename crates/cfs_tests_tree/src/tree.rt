@@ -48,9 +48,9 @@ fn the_root_is_empty(rt: HostRuntime) -> Result<(), NoMemory> {
     let alloc = rt.alloc();
     let name = named(alloc, b"a")?;
     let namespace = Namespace::empty_root(alloc)?;
-    let list = namespace.answer(alloc, &Call::List { dir: ROOT })?;
+    let list = namespace.answer(&Call::List { dir: ROOT })?;
     assert!(rt; matches!(&list, Reply::Rows(rows) if rows.len() == 0));
-    let lookup = namespace.answer(alloc, &Call::Lookup { dir: ROOT, name })?;
+    let lookup = namespace.answer(&Call::Lookup { dir: ROOT, name })?;
     assert!(rt; matches!(lookup, Reply::Refused(Errno::Enoent)));
     Ok(())
 }
@@ -60,7 +60,7 @@ fn a_file_is_made(rt: HostRuntime) -> Result<(), NoMemory> {
     let alloc = rt.alloc();
     let mut namespace = with_a_file(alloc)?;
     let name = named(alloc, b"a")?;
-    let stat = namespace.answer(alloc, &Call::Stat { dir: ROOT, name })?;
+    let stat = namespace.answer(&Call::Stat { dir: ROOT, name })?;
     assert!(rt; matches!(stat, Reply::FileStat { size: 0, time: 3 }));
     assert!(rt; namespace.counts(ROOT) == Some((1, 2)));
     assert!(rt; !namespace.forget(FileId(64)));
@@ -78,7 +78,7 @@ fn a_directory_is_made(rt: HostRuntime) -> Result<(), NoMemory> {
     assert!(rt; namespace.next_dir(None) == Some((ROOT, 3)));
     assert!(rt; namespace.next_dir(Some(ROOT)) == Some((DirId(65), 3)));
     assert!(rt; namespace.next_file(None).is_none());
-    let list = namespace.answer(alloc, &Call::List { dir: ROOT })?;
+    let list = namespace.answer(&Call::List { dir: ROOT })?;
     let Reply::Rows(rows) = list else {
         panic!(rt; "a directory has rows");
     };
@@ -93,15 +93,15 @@ fn a_directory_takes_a_free_name(rt: HostRuntime) -> Result<(), NoMemory> {
     let alloc = rt.alloc();
     let namespace = with_a_directory(alloc)?;
     let name = named(alloc, b"d")?;
-    let taken = namespace.answer(alloc, &Call::Mkdir { dir: ROOT, name })?;
+    let taken = namespace.answer(&Call::Mkdir { dir: ROOT, name })?;
     assert!(rt; matches!(taken, Reply::Refused(Errno::Eexist)));
     let name = named(alloc, b"d")?;
     let dir = DirId(65);
-    let free = namespace.answer(alloc, &Call::Mkdir { dir, name })?;
+    let free = namespace.answer(&Call::Mkdir { dir, name })?;
     assert!(rt; matches!(free, Reply::Moved));
     let name = named(alloc, b"d")?;
     let dir = DirId(129);
-    let absent = namespace.answer(alloc, &Call::Mkdir { dir, name })?;
+    let absent = namespace.answer(&Call::Mkdir { dir, name })?;
     assert!(rt; matches!(absent, Reply::Refused(Errno::Enoent)));
     Ok(())
 }
@@ -111,10 +111,10 @@ fn the_file_is_found(rt: HostRuntime) -> Result<(), NoMemory> {
     let alloc = rt.alloc();
     let namespace = with_a_file(alloc)?;
     let name = named(alloc, b"a")?;
-    let create = namespace.answer(alloc, &Call::Create { dir: ROOT, name })?;
+    let create = namespace.answer(&Call::Create { dir: ROOT, name })?;
     assert!(rt; matches!(create, Reply::Refused(Errno::Eexist)));
     let name = named(alloc, b"a")?;
-    let lookup = namespace.answer(alloc, &Call::Lookup { dir: ROOT, name })?;
+    let lookup = namespace.answer(&Call::Lookup { dir: ROOT, name })?;
     assert!(rt; matches!(lookup, Reply::Node(Node::File(FileId(64)))));
     Ok(())
 }
@@ -127,7 +127,7 @@ fn parts_are_added(rt: HostRuntime) -> Result<(), NoMemory> {
     if namespace.counts(ROOT).is_some() {
         namespace.add_row(ROOT, name, Node::Dir(DirId(64)))?;
     }
-    namespace.add_dir(alloc, DirId(64), 4)?;
+    namespace.add_dir(DirId(64), 4)?;
     namespace.add_file(FileId(128), 2, 5)?;
     assert!(rt; namespace.counts(ROOT) == Some((2, 3)));
     assert!(rt; namespace.next_file(Some(FileId(64))) == Some((FileId(128), 2, 5)));

@@ -128,7 +128,6 @@ fn fits(namespace: &Namespace, call: &Call, made: Option<Node>) -> bool
 
 // The reply to the call, whose move is made if it has one.
 fn reply_to(
-    alloc: Global,
     namespace: &mut Namespace,
     call: &Call,
     made: Option<Node>,
@@ -137,7 +136,7 @@ fn reply_to(
     requires { IsWhole namespace.old }
     ensures { IsWhole namespace.new }
 {
-    let reply = namespace.answer(alloc, call)?;
+    let reply = namespace.answer(call)?;
     if let Reply::Moved = &reply {
         if fits(namespace, call, made) {
             namespace.apply(call, made, time)?;
@@ -157,7 +156,7 @@ fn first_otherwise(
 {
     for (i, (time, step, seen)) in steps.iter().enumerate() {
         let call = call_of(alloc, *step)?;
-        let reply = reply_to(alloc, namespace, &call, made_by(*step), *time)?;
+        let reply = reply_to(namespace, &call, made_by(*step), *time)?;
         if seen_of(&reply) != *seen {
             return Ok(Some(i));
         }
