@@ -3,7 +3,7 @@ ghost use Rattle.std.specs.Prelude.{◌≡◌, ◌≢◌, ◌↔◌, ℕ, List, 
 ghost use Rattle.cfs_ids.specs.declared.ids.PlaceNo.{PlaceNo};
 ghost use Rattle.cfs_io.specs.Causes.{Rose};
 ghost use Rattle.cfs_grammar.specs.declared.fault.Fault.{Fault};
-ghost use Rattle.cfs_script.specs.declared.script.Script.{Script};
+ghost use Rattle.cfs_setup.specs.declared.script.Script.{Script};
 ghost use Rattle.cfs_script.specs.Forms.{IsScript};
 ghost use Rattle.cfs_script.specs.Outcomes.{HasRefused};
 ghost use Rattle.cfs_script.specs.Scripts.{script_of};

@@ -1,14 +1,15 @@
 //! Reading a script from a source.
 ghost use Rattle.std.specs.Prelude.{◌≡◌, ◌≢◌, ◌≤◌, ℕ, List, Some, Ok, Err, IfOk, IfErr};
 ghost use Rattle.cfs_io.specs.Causes.{Rose};
-ghost use Rattle.cfs_script.specs.declared.script.Script.{Script};
+ghost use Rattle.cfs_setup.specs.declared.script.Script.{Script};
 ghost use Rattle.cfs_script.specs.Forms.{IsScript};
 ghost use Rattle.cfs_script.specs.Scripts.{script_of};
 ghost use Rattle.cfs_script.specs.Outcomes.{Gives, Answers, Reads, IsInForm};
 
 use crate::lines::read_text;
-use crate::script::{Script, ScriptRefusal};
+use crate::refusal::ScriptRefusal;
 use cfs_io::{ReadError, Source, read_within};
+use cfs_setup::Script;
 use std::alloc::Global;
 
 const MOST_BYTES: usize = 4_194_304;

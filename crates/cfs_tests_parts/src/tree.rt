@@ -213,7 +213,6 @@ fn fits(namespace: &Namespace, call: &Call, made: Option<Node>) -> bool
 
 // The reply to the call, whose move is made if it has one.
 fn reply_to(
-    alloc: Global,
     namespace: &mut Namespace,
     call: &Call,
     made: Option<Node>,
@@ -222,7 +221,7 @@ fn reply_to(
     requires { IsWhole namespace.old }
     ensures { IsWhole namespace.new }
 {
-    let reply = namespace.answer(alloc, call)?;
+    let reply = namespace.answer(call)?;
     if let Reply::Moved = &reply {
         if fits(namespace, call, made) {
             namespace.apply(call, made, time)?;
@@ -241,7 +240,7 @@ fn is_answered(alloc: Global, namespace: &mut Namespace, row: Row) -> Result<boo
         Makes(time, made, number) => (time, made, number, Moved),
     };
     let call = call_of(alloc, made)?;
-    let reply = reply_to(alloc, namespace, &call, node_of(made, number), time)?;
+    let reply = reply_to(namespace, &call, node_of(made, number), time)?;
     Ok(told_of(&reply) == told)
 }
 
@@ -317,7 +316,7 @@ fn with_parts(alloc: Global) -> Result<Namespace, NoMemory> {
     if namespace.counts(DirId(0)).is_some() {
         namespace.add_row(DirId(0), b, Node::Dir(DirId(64)))?;
     }
-    namespace.add_dir(alloc, DirId(64), 4)?;
+    namespace.add_dir(DirId(64), 4)?;
     namespace.add_file(FileId(64), 0, 3)?;
     namespace.add_file(FileId(128), 2, 5)?;
     Ok(namespace)

@@ -3,8 +3,8 @@
 ghost use Rattle.std.specs.Prelude.{◌<◌};
 
 use crate::many::{thousand_script, thousand_text};
-use cfs_io::{MemSink, MemSource};
-use cfs_run::{FreeGate, Status, cfs_words, replay_bytes};
+use cfs_io::{MemSink, MemSource, SureSink, SureSource};
+use cfs_run::{FreeGate, Status, cfs_words, replay};
 use cfs_script::Fault;
 use std::process::Abort;
 use std::sync::Wait;
@@ -97,7 +97,7 @@ fn bytes_that_no_device_fails_on(rt: HostRuntime) -> Result<(), Fail> {
     let short = Vec::from_slice(rt.alloc(), b"places 1")?;
     let line = 1;
     let fault = Fault::BadCommand;
-    let status = replay_bytes(rt.alloc(), short);
+    let status = replay(rt.alloc(), &mut SureSource::new(short), &mut SureSink::new());
     assert!(rt; status == Status::Script { line, fault });
     assert!(rt; Status::ReadFault.code() == 4);
     Ok(())
