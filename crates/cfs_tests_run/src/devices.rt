@@ -97,7 +97,11 @@ fn bytes_that_no_device_fails_on(rt: HostRuntime) -> Result<(), Fail> {
     let short = Vec::from_slice(rt.alloc(), b"places 1")?;
     let line = 1;
     let fault = Fault::BadCommand;
-    let status = replay(rt.alloc(), &mut SureSource::new(short), &mut SureSink::new());
+    let status = replay(
+        rt.alloc(),
+        &mut SureSource::new(short),
+        &mut SureSink::new(),
+    );
     assert!(rt; status == Status::Script { line, fault });
     assert!(rt; Status::ReadFault.code() == 4);
     Ok(())
