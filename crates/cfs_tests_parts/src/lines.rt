@@ -60,8 +60,8 @@ const FAULTS: [(u64, &[Want]); 5] = [
     (1, &[Fault]),
     (2, &[Line(b"ab"), Fault]),
     (3, &[Line(b"ab"), Fault]),
-    (4, &[Line(b"ab"), Line(b"c"), Fault]),
-    (5, &[Line(b"ab"), Line(b"c"), End]),
+    // The third read tells the end, so there is no fourth.
+    (4, &[Line(b"ab"), Line(b"c"), End]),
 ];
 
 fn is_line(line: &TextLine, want: Want) -> bool {
