@@ -56,7 +56,7 @@ const PAST: [Row; 9] = [
 ];
 
 // Of the reads of "ab", LF and c in pieces of 3, this one fails.
-const FAULTS: [(u64, &[Want]); 5] = [
+const FAULTS: [(u64, &[Want]); 4] = [
     (1, &[Fault]),
     (2, &[Line(b"ab"), Fault]),
     (3, &[Line(b"ab"), Fault]),
