@@ -2,23 +2,29 @@
 use cfs_ids::{Call, DirId, Errno, FileId, JobNo, Name, NoMemory, Node, Reply, RowList};
 use std::alloc::Global;
 
+/// What a call does at a name of a directory.
+#[derive(Clone, Copy, PartialEq, Eq)]
+pub enum Verb {
+    Lookup,
+    Stat,
+    Create,
+    Mkdir,
+    Unlink,
+    Rmdir,
+}
+
 /// A call on directories and files by their numbers, with names of one letter.
-#[derive(Clone, Copy, Debug, PartialEq, Eq)]
+#[derive(Clone, Copy, PartialEq, Eq)]
 pub enum Made {
-    Lookup(u64, u8),
+    At(Verb, u64, u8),
     List(u64),
     StatRoot,
-    Stat(u64, u8),
-    Create(u64, u8),
-    Mkdir(u64, u8),
-    Unlink(u64, u8),
-    Rmdir(u64, u8),
     Truncate(u64, u64),
     Rename(u64, u8, u64, u8),
 }
 
 /// What a call or a command is answered. Rows are seen by their count.
-#[derive(Clone, Copy, Debug, PartialEq, Eq)]
+#[derive(Clone, Copy, PartialEq, Eq)]
 pub enum Told {
     Moved,
     Kept,
@@ -47,29 +53,22 @@ fn letter_of(name: &Name) -> u8 {
     }
 }
 
-// The call on the name of a directory.
-fn call_on_name(alloc: Global, made: Made, dir: u64, letter: u8) -> Result<Call, NoMemory> {
-    let dir = DirId(dir);
-    let name = named(alloc, letter)?;
-    Ok(match made {
-        Made::Stat(..) => Call::Stat { dir, name },
-        Made::Create(..) => Call::Create { dir, name },
-        Made::Mkdir(..) => Call::Mkdir { dir, name },
-        Made::Unlink(..) => Call::Unlink { dir, name },
-        Made::Rmdir(..) => Call::Rmdir { dir, name },
-        _ => Call::Lookup { dir, name },
-    })
+// The call at the name of a directory.
+fn call_at(verb: Verb, dir: DirId, name: Name) -> Call {
+    match verb {
+        Verb::Lookup => Call::Lookup { dir, name },
+        Verb::Stat => Call::Stat { dir, name },
+        Verb::Create => Call::Create { dir, name },
+        Verb::Mkdir => Call::Mkdir { dir, name },
+        Verb::Unlink => Call::Unlink { dir, name },
+        Verb::Rmdir => Call::Rmdir { dir, name },
+    }
 }
 
 /// The call of a row.
 pub fn call_of(alloc: Global, made: Made) -> Result<Call, NoMemory> {
     match made {
-        Made::Lookup(dir, letter)
-        | Made::Stat(dir, letter)
-        | Made::Create(dir, letter)
-        | Made::Mkdir(dir, letter)
-        | Made::Unlink(dir, letter)
-        | Made::Rmdir(dir, letter) => call_on_name(alloc, made, dir, letter),
+        Made::At(verb, dir, letter) => Ok(call_at(verb, DirId(dir), named(alloc, letter)?)),
         Made::List(dir) => Ok(Call::List { dir: DirId(dir) }),
         Made::StatRoot => Ok(Call::StatRoot),
         Made::Truncate(file, size) => Ok(Call::Truncate {
@@ -85,17 +84,22 @@ pub fn call_of(alloc: Global, made: Made) -> Result<Call, NoMemory> {
     }
 }
 
+// The row of a call at the name of a directory.
+fn at(verb: Verb, dir: &DirId, name: &Name) -> Made {
+    Made::At(verb, dir.0, letter_of(name))
+}
+
 /// The row of a call.
 pub fn made_of(call: &Call) -> Made {
     match call {
-        Call::Lookup { dir, name } => Made::Lookup(dir.0, letter_of(name)),
+        Call::Lookup { dir, name } => at(Verb::Lookup, dir, name),
         Call::List { dir } => Made::List(dir.0),
         Call::StatRoot => Made::StatRoot,
-        Call::Stat { dir, name } => Made::Stat(dir.0, letter_of(name)),
-        Call::Create { dir, name } => Made::Create(dir.0, letter_of(name)),
-        Call::Mkdir { dir, name } => Made::Mkdir(dir.0, letter_of(name)),
-        Call::Unlink { dir, name } => Made::Unlink(dir.0, letter_of(name)),
-        Call::Rmdir { dir, name } => Made::Rmdir(dir.0, letter_of(name)),
+        Call::Stat { dir, name } => at(Verb::Stat, dir, name),
+        Call::Create { dir, name } => at(Verb::Create, dir, name),
+        Call::Mkdir { dir, name } => at(Verb::Mkdir, dir, name),
+        Call::Unlink { dir, name } => at(Verb::Unlink, dir, name),
+        Call::Rmdir { dir, name } => at(Verb::Rmdir, dir, name),
         Call::Truncate { file, size } => Made::Truncate(file.0, *size),
         Call::Rename {
             dir,

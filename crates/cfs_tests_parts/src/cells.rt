@@ -1,11 +1,10 @@
 //! What threads do with a cell whose value is a list of numbers.
 ghost use Rattle.std.specs.Prelude.{◌≡◌, [], ◌∷◌};
-ghost use Rattle.std.specs.Bool.{OnTrue};
 ghost use Rattle.std.specs.Thread.{IsSync};
 ghost use Rattle.cfs_place.specs.Passes.{knows, IsPassOf, IsFirstOf, HoldsNothing};
 
 use cfs_place::numbers::{Number, Numbers, add_number, add_to};
-use cfs_place::{Cell, Logged, Pass, Taken};
+use cfs_place::{Cell, Logged, Pass};
 use std::sync::Wait;
 use std::test::Fail;
 use std::thread;
@@ -97,23 +96,6 @@ fn add_by_four<R: Threads + Wait + Sync>(
     all
 }
 
-// Whether the value is out. Where it is not, it is taken and given back.
-fn is_taken<R: Wait>(rt: &R, cell: &Cell<Numbers>, pass: &mut Pass<Numbers>) -> bool
-    requires { IsPassOf cell.now pass.old }
-    ensures pass { IsPassOf cell.now pass.new }
-    ensures same { OnTrue result (knows pass.new ≡ knows pass.old) }
-    ensures none { HoldsNothing pass.old → HoldsNothing pass.new }
-    ensures book { ((knows pass.new).by ≡ (knows pass.old).by) × ((knows pass.new).leads ≡ (knows pass.old).leads) × ((knows pass.new).out ≡ (knows pass.old).out) }
-{
-    match cell.try_take(rt, pass) {
-        Ok(held) => {
-            held.give(rt, pass);
-            false
-        }
-        Err(Taken) => true,
-    }
-}
-
 // How many numbers a maker has in the list, where they are 0, 1, 2 and so on, in this order.
 fn counts_up(list: &[Number], by: u32) -> Option<u64> {
     let mut next = 0u64;
@@ -129,41 +111,15 @@ fn counts_up(list: &[Number], by: u32) -> Option<u64> {
 }
 
 #[test]
-fn each_pass_adds_under_its_own_number(rt: HostRuntime) -> Result<(), Fail> {
+fn a_value_is_taken_and_given_back(rt: HostRuntime) -> Result<(), Fail> {
     let list = Numbers::new(rt.alloc(), 7);
     let (cell, mut one) = Cell::new(&rt, rt.alloc(), list, 1)?;
-    let mut two = cell.split(&rt, &mut one, 2)?;
-    add_number(&rt, &cell, &mut two, 2, 10)?;
     let mut held = cell.try_take(&rt, &mut one)?;
-    assert_eq!(rt;
-        held.value().items.as_slice(),
-        [Number { by: 2, value: 10 }].as_slice()
-    );
+    let is_new = held.value().items.is_empty();
     add_to(&rt, held, &mut one, 1, 20)?;
-    cell.join(&rt, &mut one, two);
     let list = cell.close(&rt, one);
-    let made = [Number { by: 2, value: 10 }, Number { by: 1, value: 20 }];
-    assert_eq!(rt; list.items.as_slice(), made.as_slice());
-    assert_eq!(rt; (list.title, list.count(), list.last()), (7, 2, 2));
-    Ok(())
-}
-
-#[test]
-fn a_value_that_is_out_is_not_taken_again(rt: HostRuntime) -> Result<(), Fail> {
-    let list = Numbers::new(rt.alloc(), 7);
-    let (cell, mut one) = Cell::new(&rt, rt.alloc(), list, 1)?;
-    let mut two = cell.split(&rt, &mut one, 2)?;
-    let held = cell.try_take(&rt, &mut one)?;
-    let again = is_taken(&rt, &cell, &mut two);
-    let mine = is_taken(&rt, &cell, &mut one);
-    assert!(rt; again);
-    assert!(rt; mine);
-    held.give(&rt, &mut one);
-    let free = is_taken(&rt, &cell, &mut two);
-    assert!(rt; !free);
-    cell.join(&rt, &mut one, two);
-    let list = cell.close(&rt, one);
-    assert!(rt; list.items.is_empty());
+    assert!(rt; is_new && (list.title, list.count(), list.last()) == (7, 1, 1));
+    assert!(rt; list.items.as_slice() == [Number { by: 1, value: 20 }].as_slice());
     Ok(())
 }
 

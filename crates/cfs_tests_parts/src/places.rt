@@ -85,15 +85,15 @@ fn ask_of(alloc: Global, step: Step) -> Result<Ask, NoMemory> {
     })
 }
 
-// Makes the step, where its place is there; `last` is the client's last number.
-fn make(alloc: Global, places: &mut Places, last: u64, step: Step) -> Result<(), ServeFault>
+// Serves the ask, where its place is there; `last` is the client's last number.
+fn serve(places: &mut Places, last: u64, ask: &Ask) -> Result<(), ServeFault>
     requires { IsService places.old }
     ensures { IsService places.new }
 {
-    let ask = ask_of(alloc, step)?;
-    if places.get(ask.place()).is_some() {
-        places.serve(Actor::Client(CLIENT), last, &ask)?;
+    if places.get(ask.place()).is_none() {
+        return Ok(());
     }
+    let _ = places.serve(Actor::Client(CLIENT), last, ask)?;
     Ok(())
 }
 
@@ -116,7 +116,7 @@ fn are_seen(alloc: Global, places: &mut Places, steps: &[(Step, Seen)]) -> Resul
 {
     let mut last = 0u64;
     for (step, seen) in steps {
-        make(alloc, places, last, *step)?;
+        serve(places, last, &ask_of(alloc, *step)?)?;
         if seen_of(places) != *seen {
             return Ok(false);
         }
@@ -140,14 +140,19 @@ fn what_is_owed_and_strays_and_holds_after_each_step(rt: HostRuntime) -> Result<
     Ok(())
 }
 
-// Two shards and a store, with a file 64 that two rows of the root name: b, and then a.
+// A file that two rows of the root name: b, and then a.
+const TWO_ROWS: [(Step, Seen); 3] = [
+    (Put(64), (1, 0, true, true)),
+    (Insert(ROOT, b'b', Node::File(FILE)), (1, 0, true, true)),
+    (Insert(ROOT, b'a', Node::File(FILE)), (1, 0, true, true)),
+];
+
+// Two shards and a store with these rows.
 fn with_rows(alloc: Global) -> Result<Places, ServeFault>
     ensures { IfOk result (λ places. IsService places) }
 {
     let mut places = Places::new(alloc, 2, 1)?;
-    make(alloc, &mut places, 0, Put(64))?;
-    make(alloc, &mut places, 1, Insert(ROOT, b'b', Node::File(FILE)))?;
-    make(alloc, &mut places, 2, Insert(ROOT, b'a', Node::File(FILE)))?;
+    let _ = are_seen(alloc, &mut places, &TWO_ROWS)?;
     Ok(places)
 }
 
@@ -243,16 +248,16 @@ fn each_place_has_its_number_also_through_a_list(rt: HostRuntime) -> Result<(), 
     let mut places = Places::from_list(list);
     for (place, letter) in PLACES {
         assert!(rt; letter_of(places.get(PlaceNo(place))) == letter, "{place}");
-        let is_there = places.get_mut(PlaceNo(place)).is_some();
-        assert!(rt; is_there == (letter != b'-'), "{place}");
     }
+    let roster = places.get_mut(PlaceNo(129));
+    assert!(rt; matches!(roster, Some(Place::Roster(_))));
     Ok(())
 }
 
 #[test]
 fn the_desk_logs_what_it_does_not_answer(rt: HostRuntime) -> Result<(), ServeFault> {
     let mut places = Places::new(rt.alloc(), 1, 1)?;
-    make(rt.alloc(), &mut places, 7, Put(128))?;
+    serve(&mut places, 7, &ask_of(rt.alloc(), Put(128))?)?;
     let Some(desk) = places.get(PlaceNo(128)) else {
         assert!(rt; false, "the desk");
         return Ok(());
@@ -260,8 +265,12 @@ fn the_desk_logs_what_it_does_not_answer(rt: HostRuntime) -> Result<(), ServeFau
     assert!(rt; (desk.count(), desk.last()) == (1, 8));
     let entry = desk.entry(0);
     assert!(rt; entry.is_some_and(|entry| matches!(&entry.answer, Answer::None)));
+    Ok(())
+}
+
+#[test]
+fn a_list_of_places_is_as_pushed(rt: HostRuntime) -> Result<(), ServeFault> {
     let mut list = PlaceList::new(rt.alloc());
-    assert!(rt; list.len() == 0);
     let pushed = list.push(Place::Desk(Desk::new(rt.alloc())?)).is_ok();
     assert!(rt; pushed && letter_of(list.get(0)) == b'd');
     Ok(())

@@ -1,22 +1,23 @@
 //! The printed forms of replies, calls and files that no run has yet.
-use crate::calls::Made::{Lookup, Rename, Rmdir, Stat, StatRoot, Truncate, Unlink};
-use crate::calls::{Made, Told, call_of, named, reply_of};
+use crate::calls::Made::{At, Rename, StatRoot, Truncate};
+use crate::calls::Verb::{Lookup, Rmdir, Stat, Unlink};
+use crate::calls::{Made, Told, call_of, reply_of};
+use crate::tree::with_parts;
 use Told::{Busy, DirStat, FileStat, Kept, Moved};
 use cfs_history::{History, HistoryItem, Line, Outcome};
-use cfs_ids::{Client, DirId, FileId, NoMemory, Node, RowList};
+use cfs_ids::{Client, NoMemory};
 use cfs_io::MemSink;
 use cfs_print::{CommandReply, NamedFiles, Printed, ReplyTable, write_run};
-use cfs_tree::{Directory, Namespace};
 use cfs_view::Tallied;
 use std::alloc::Global;
 use std::test::Fail;
 
-// The reply of a command of client 1, and its line.
-const REPLIES: [(Told, &str); 4] = [
-    (Kept, "c 1 1 OK\n"),
-    (DirStat(2, 3, 9), "c 1 2 DIR children=2 links=3 time=9\n"),
-    (FileStat(5, 8), "c 1 3 FILE size=5 time=8\n"),
-    (Busy(7), "c 1 4 BUSY 7\n"),
+// The number of a command of client 1, its reply, and its line.
+const REPLIES: [(u64, Told, &str); 4] = [
+    (1, Kept, "c 1 1 OK\n"),
+    (2, DirStat(2, 3, 9), "c 1 2 DIR children=2 links=3 time=9\n"),
+    (3, FileStat(5, 8), "c 1 3 FILE size=5 time=8\n"),
+    (4, Busy(7), "c 1 4 BUSY 7\n"),
 ];
 
 // A call of client 2 from step 0 to step 6 with its point at step 3, its reply, and its line. A move is at time 4.
@@ -27,13 +28,21 @@ const CALLS: [(Made, Told, &str); 9] = [
         "l 2 0 3 6 statroot = dir 2 3 9\n",
     ),
     (
-        Stat(0, b'x'),
+        At(Stat, 0, b'x'),
         FileStat(5, 8),
         "l 2 0 3 6 stat 0 x = file 5 8\n",
     ),
-    (Lookup(0, b'x'), Busy(7), "l 2 0 3 6 lookup 0 x = BUSY 7\n"),
-    (Unlink(65, b'x'), Moved, "l 2 0 3 6 unlink 65 x = ok 4 -\n"),
-    (Rmdir(0, b'd'), Moved, "l 2 0 3 6 rmdir 0 d = ok 4 -\n"),
+    (
+        At(Lookup, 0, b'x'),
+        Busy(7),
+        "l 2 0 3 6 lookup 0 x = BUSY 7\n",
+    ),
+    (
+        At(Unlink, 65, b'x'),
+        Moved,
+        "l 2 0 3 6 unlink 65 x = ok 4 -\n",
+    ),
+    (At(Rmdir, 0, b'd'), Moved, "l 2 0 3 6 rmdir 0 d = ok 4 -\n"),
     (Truncate(64, 9), Moved, "l 2 0 3 6 truncate 64 9 = ok 4 -\n"),
     (
         Rename(0, b'x', 65, b'y'),
@@ -45,19 +54,23 @@ const CALLS: [(Made, Told, &str); 9] = [
         Kept,
         "l 2 0 3 6 rename 0 x 0 x = kept\n",
     ),
-    (Unlink(0, b'x'), Busy(7), "l 2 0 3 6 unlink 0 x = BUSY 7\n"),
+    (
+        At(Unlink, 0, b'x'),
+        Busy(7),
+        "l 2 0 3 6 unlink 0 x = BUSY 7\n",
+    ),
 ];
 
-// The lines of `two_files`, after which the counts come.
-const TREE: &str = "t 0 / d0 children=1 links=2 time=0\n\
-    t 0 x f64 size=3 time=5\n\
-    u f192 size=7 time=6\n";
+// The lines of a tree `with_parts`, after which the counts come.
+const TREE: &str = "t 0 / d0 children=2 links=3 time=0\n\
+    t 0 a f64 size=0 time=3\n\
+    t 0 b d64 children=0 links=2 time=4\n\
+    u f128 size=2 time=5\n";
 
 // The table of the replies, and its lines behind the text.
 fn add_replies(alloc: Global, text: &mut String) -> Result<ReplyTable, Fail> {
     let mut replies = ReplyTable::new(alloc);
-    let mut number = 1;
-    for (told, line) in REPLIES {
+    for (number, told, line) in REPLIES {
         let reply = CommandReply {
             client: Client(1),
             number,
@@ -65,7 +78,6 @@ fn add_replies(alloc: Global, text: &mut String) -> Result<ReplyTable, Fail> {
         };
         replies.push(reply)?;
         text.push_str(line)?;
-        number += 1;
     }
     Ok(replies)
 }
@@ -95,17 +107,6 @@ fn add_calls(alloc: Global, text: &mut String) -> Result<History, Fail> {
     Ok(history)
 }
 
-// The root with the file 64 named x, and the file 192 without a name.
-fn two_files(alloc: Global) -> Result<Namespace, Fail> {
-    let mut rows = RowList::new(alloc);
-    rows.push((named(alloc, b'x')?, Node::File(FileId(64))))?;
-    let mut tree = Namespace::new(alloc);
-    tree.set_dir(DirId(0), Directory::of_rows(alloc, 0, &rows)?)?;
-    tree.add_file(FileId(64), 3, 5)?;
-    tree.add_file(FileId(192), 7, 6)?;
-    Ok(tree)
-}
-
 #[test]
 fn each_form_is_printed(rt: HostRuntime) -> Result<(), Fail> {
     let mut text = String::from_str(rt.alloc(), "cfs 1\nplaces 2 1\n")?;
@@ -114,7 +115,7 @@ fn each_form_is_printed(rt: HostRuntime) -> Result<(), Fail> {
         stores: 1,
         replies: add_replies(rt.alloc(), &mut text)?,
         history: add_calls(rt.alloc(), &mut text)?,
-        tree: two_files(rt.alloc())?,
+        tree: with_parts(rt.alloc())?,
         steps: 0,
         tally: Tallied {
             owed: 0,
