@@ -11,9 +11,8 @@ use Rattle.cfs_walk.specs.declared.command.Command.{Command}
 use Rattle.cfs_walk.specs.declared.command.Command.TheVariants.{Lookup, List as ListCommand, Create, Mkdir}
 use Rattle.cfs_walk.specs.Commands.{is_in_form}
 use Rattle.cfs_walk.specs.Walks.{Answered, calls_of, has_too_long, course_of}
-use Rattle.cfs_script.specs.declared.script.Script.{Script}
-use Rattle.cfs_script.specs.Built.{is_built}
-use Rattle.cfs_script.specs.Outcomes.{are_built}
+use Rattle.cfs_setup.specs.declared.script.Script.{Script}
+use Rattle.cfs_setup.specs.Built.{is_built, are_built}
 use Rattle.cfs_actor.specs.Plans.{HasSteps, plan_of}
 use Rattle.cfs_actor.proofs.Keeping.{Keeps, followed-keeps, one_call-keeps, listing-keeps}
 use Rattle.cfs_actor.proofs.Steps.{keeps-steps}

@@ -4,8 +4,8 @@ use Rattle.std.specs.Prelude.{IsTrue}
 use Rattle.std.specs.List.{list_all}
 use Rattle.cfs_ids.specs.declared.ids.Client.{Client}
 use Rattle.cfs_walk.specs.declared.command.Command.{Command}
-use Rattle.cfs_script.specs.declared.script.Script.{Script}
-use Rattle.cfs_script.specs.Outcomes.{are_built}
+use Rattle.cfs_setup.specs.declared.script.Script.{Script}
+use Rattle.cfs_setup.specs.Built.{are_built}
 use Rattle.cfs_rules.specs.Worlds.{AreCounts, Progress, opening}
 use Rattle.cfs_view.specs.Held.{Held, opening_held}
 use Rattle.cfs_actor.specs.declared.client_state.ClientState.{ClientState}

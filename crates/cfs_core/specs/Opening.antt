@@ -3,7 +3,7 @@ use Rattle.std.specs.Prelude.{◌≡◌, ℕ, List, [], ◌∷◌, map, ◌==◌
 use Rattle.cfs_ids.specs.declared.ids.Client.{Client}
 use Rattle.cfs_rules.specs.Worlds.{Plan, Ends, Progress, Setup, starts}
 use Rattle.cfs_walk.specs.declared.command.Command.{Command}
-use Rattle.cfs_script.specs.declared.script.Script.{Script}
+use Rattle.cfs_setup.specs.declared.script.Script.{Script}
 use Rattle.cfs_actor.specs.declared.client_state.ClientState.{ClientState}
 use Rattle.cfs_actor.specs.Clients.{client_of, progress_of}
 use Rattle.cfs_actor.specs.Plans.{plan_of}

@@ -2,8 +2,7 @@
 ghost use Rattle.std.specs.Prelude.{◌≡◌, IfOk, IsTrue, true};
 ghost use Rattle.std.specs.List.{list_all};
 ghost use Rattle.cfs_rules.specs.Worlds.{AreCounts, starts};
-ghost use Rattle.cfs_script.specs.Built.{is_built};
-ghost use Rattle.cfs_script.specs.Outcomes.{are_built};
+ghost use Rattle.cfs_setup.specs.Built.{is_built, are_built};
 ghost use Rattle.cfs_actor.specs.Clients.{client_of, counts_of, progress_of};
 ghost use Rattle.cfs_actor.specs.Plans.{plan_of};
 ghost use Rattle.cfs_core.specs.Clients.{works_with};
@@ -11,7 +10,7 @@ ghost use Rattle.cfs_core.specs.Opening.{StartsAs, tries};
 
 use cfs_actor::{ClientState, CommandQueue};
 use cfs_ids::{Client, NoMemory};
-use cfs_script::{Command, CommandList};
+use cfs_walk::{Command, CommandList};
 use std::alloc::Global;
 
 /// How often a call that is answered Busy is made in all.

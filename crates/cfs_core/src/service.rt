@@ -6,7 +6,7 @@ ghost use Rattle.cfs_rules.proofs.OnlyOne.{AreNumbered-prop, AreOwnShards-prop, 
 ghost use Rattle.cfs_steps.specs.declared.ask.Ask.{Ask};
 ghost use Rattle.cfs_steps.specs.Asks.{place_of};
 ghost use Rattle.cfs_rules.specs.Worlds.{AreCounts, client_of, opening, turn};
-ghost use Rattle.cfs_script.specs.Outcomes.{are_built};
+ghost use Rattle.cfs_setup.specs.Built.{are_built};
 ghost use Rattle.cfs_view.specs.Held.{opening_held, log_full};
 ghost use Rattle.cfs_view.specs.Views.{held, counts_of as places_of};
 ghost use Rattle.cfs_core.specs.Clients.{IsSound, number_in};
@@ -21,7 +21,7 @@ use crate::turned::Turned;
 use crate::turning::turn_among;
 use cfs_actor::ClientState;
 use cfs_ids::{Actor, Client, NoMemory, PlaceNo};
-use cfs_script::Script;
+use cfs_setup::Script;
 use cfs_view::Places;
 use std::alloc::Global;
 

@@ -6,8 +6,6 @@ mod line;
 mod numbers;
 mod order;
 mod paths;
-#[cfg(test)]
-mod tests;
 mod turns;
 mod verb;
 mod words;

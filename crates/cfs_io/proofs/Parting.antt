@@ -24,7 +24,7 @@ has_end-cut bytes part len = ap (λ k. has_end (take k bytes)) len ∙ ap has_en
 TakesPart-cut : (old : ReadAhead) (line grown : LineGot) (end : PartEnd) (part : ℕ) → part ≡ min (line_len old.bytes + 1) (length old.bytes) → 0 < length old.bytes →
     EndsBy end old.room (take part old.bytes) (drop part old.bytes) →
     ((before : List ℕ) → length (take part old.bytes) ≤ old.room → line ≡ so_far before → grown ≡ line_got (before ++ take (line_len old.bytes) old.bytes)) →
-    TakesPart old (record { bytes = drop part old.bytes; room = old.room - part }) line grown end
+    TakesPart old (record old { bytes = drop part old.bytes; room = old.room - part }) line grown end
 TakesPart-cut old line grown end part len some ends grows = record {
   part = take part old.bytes;
   some = omega (arith, length-take part old.bytes);
@@ -40,7 +40,7 @@ TakesPart-cut old line grown end part len some ends grows = record {
 
 -- what was taken, from what the code knows of it
 module _ (old new : ReadAhead) (line : LineGot) (bytes : List ℕ) (len part : ℕ) (same : bytes ≡ old.bytes) (end : len ≡ line_len bytes) (cut : part ≡ min (len + 1) (length bytes)) (some : 0 < length old.bytes)
-    (skipped : new ≡ record { bytes = drop part old.bytes; room = old.room - part }) where
+    (skipped : new ≡ record old { bytes = drop part old.bytes; room = old.room - part }) where
   part_is : part ≡ min (line_len old.bytes + 1) (length old.bytes)
   part_is = cc
 

@@ -5,7 +5,7 @@ use Rattle.cfs_io.specs.declared.ahead.Ahead.TheInside.{Inside}
 
 -- they stand in a piece, from `at` to `end`
 abbrev pub read_ahead : Inside → ReadAhead
-read_ahead a = record { bytes = drop a.at (take a.end a.piece); room = a.room }
+read_ahead a = record { bytes = drop a.at (take a.end a.piece); room = a.room; ended = a.ended }
 
 pub record IsWithin (a : Inside) : Type 0 where
   pub piece : length a.piece ≡ 4096

@@ -1,5 +1,5 @@
 //! Reading a source to its end.
-ghost use Rattle.std.specs.Prelude.{◌≡◌, ◌≢◌, ◌≤◌, ◌<◌, ◌^◌, Err, IfOk, IsErrOf};
+ghost use Rattle.std.specs.Prelude.{◌≡◌, ◌≢◌, ◌≤◌, ◌<◌, ◌+◌, ◌^◌, Err, IfOk, IsErrOf};
 ghost use Rattle.cfs_io.specs.Causes.{Rose};
 ghost use Rattle.cfs_io.specs.Input.{ReadsWithin};
 ghost use Rattle.cfs_io.specs.Lines.{HasByte};
@@ -17,7 +17,8 @@ pub enum ReadError {
     NoMemory,
 }
 
-/// Reads to the end of input, or to the first byte past `most`, a number below 2^63. `Failed` comes exactly where a read
+/// Reads to the end of input, which is told once at most, so that nothing is read behind it, or to the first byte past
+/// `most`, a number below 2^63. `Failed` comes exactly where a read
 /// failed, and `NoMemory` where no memory was left. After either, what was read is lost, and the contract says nothing of
 /// what the source has left.
 pub fn read_within<S: Source>(
@@ -31,6 +32,7 @@ pub fn read_within<S: Source>(
     ensures cause { IsErrOf result ReadError.Failed → Rose (S.faults source.old) (S.faults source.new) }
     ensures no_memory { IsErrOf result ReadError.NoMemory → HasByte (S.left source.old) }
     ensures no_fault { result ≢ Err ReadError.Failed → S.faults source.new ≡ S.faults source.old }
+    ensures ends { S.ends source.new ≤ S.ends source.old + 1 }
 {
     let mut bytes = Vec::new(alloc);
     let mut piece = [0; PIECE];

@@ -1,8 +1,9 @@
 //! Going over a line, piece by piece.
 ghost use Rattle.std.specs.Prelude.{◌≡◌, ◌≢◌, ◌==◌, ◌≤◌, ◌<◌, ◌+◌, [], length, true, Err, IfOk, OnErr, IsErrOf, position};
 ghost use Rattle.std.specs.List.{position_or_len};
-ghost use Rattle.std.specs.Io.KnownBytes.{prepend_known};
+ghost use Rattle.std.specs.Io.KnownBytes.{IsAtEnd, prepend_known};
 ghost use Rattle.cfs_io.specs.Causes.{Rose};
+ghost use Rattle.cfs_io.specs.Ends.{TellsEndOnce};
 ghost use Rattle.cfs_io.specs.Lines.{is_last, HasByte, GoesInto, TellsLine};
 ghost use Rattle.cfs_io.specs.Parts.{TakesPart};
 
@@ -43,6 +44,7 @@ fn line_len(bytes: &[u8]) -> usize
 fn take_part(alloc: Global, ahead: &mut Ahead, line: &mut LineGot) -> Result<PartEnd, NoMemory>
     requires { 0 < length ahead.old.bytes }
     ensures ok { IfOk result (TakesPart ahead.old ahead.new line.old line.new) }
+    ensures ended { ahead.new.ended ≡ ahead.old.ended }
     ensures err { OnErr result (ahead.new ≡ ahead.old) }
 {
     let bytes = ahead.bytes();
@@ -68,6 +70,7 @@ pub fn read_line<S: Source>(
     source: &mut S,
     ahead: &mut Ahead,
 ) -> Result<LineGot, LineFault>
+    requires { ahead.old.ended ≡ true → IsAtEnd (S.left source.old) }
     ensures line { IfOk result (TellsLine ahead.old.room ahead.new.room (prepend_known ahead.old.bytes (S.left source.old)) (prepend_known ahead.new.bytes (S.left source.new))) }
     ensures err { OnErr result (GoesInto ahead.old.room ahead.new.room (prepend_known ahead.old.bytes (S.left source.old)) (prepend_known ahead.new.bytes (S.left source.new))) }
     ensures bound { length ahead.new.bytes ≤ ahead.new.room + 1 }
@@ -76,6 +79,8 @@ pub fn read_line<S: Source>(
     ensures read_fault { IsErrOf result LineFault.Read → Rose (S.faults source.old) (S.faults source.new) }
     ensures no_fault { result ≢ Err LineFault.Read → S.faults source.new ≡ S.faults source.old }
     ensures no_memory { IsErrOf result LineFault.NoMemory → HasByte (prepend_known ahead.old.bytes (S.left source.old)) }
+    ensures ends { TellsEndOnce ahead.old.ended ahead.new.ended (S.ends source.old) (S.ends source.new) }
+    ensures ended { ahead.new.ended ≡ true → IsAtEnd (S.left source.new) }
 {
     let mut line = LineGot::End;
     while ahead.has_more(source)? {

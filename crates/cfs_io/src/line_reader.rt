@@ -1,6 +1,9 @@
 //! Reading a source line by line.
 ghost use Rattle.std.specs.Prelude.{◌≡◌, ◌≢◌, ◌≤◌, ◌<◌, ◌+◌, ◌^◌, ℕ, List, [], length, Some, Err, true, false, IsOk, IfOk, OnErr, IsErrOf};
+ghost use Rattle.std.specs.Io.KnownBytes.{IsAtEnd};
+ghost use Rattle.std.proofs.Props.{props};
 ghost use Rattle.cfs_io.specs.Causes.{Rose};
+ghost use Rattle.cfs_io.specs.Ends.{TellsEndOnce, IsAtEnd-prop};
 ghost use Rattle.cfs_io.specs.Lines.{is_last, HasByte, GoesInto, TellsLine, TellsFirst};
 
 use crate::ahead::Ahead;
@@ -10,7 +13,8 @@ use crate::traits::Source;
 use cfs_ids::NoMemory;
 use std::alloc::Global;
 
-/// Reads a source line by line, under a limit on its bytes. It reads at most one byte past the limit.
+/// Reads a source line by line, under a limit on its bytes. It reads at most one byte past the limit, and nothing
+/// behind the end of input, which is told once at most.
 #[derive(Drop)]
 pub struct LineReader<'a, S: Source> {
     alloc: Global,
@@ -19,6 +23,7 @@ pub struct LineReader<'a, S: Source> {
     told: u64,
     ended: bool,
     ghost small: { told + ahead.room < 2 ^ 63 },
+    ghost at_end: { ahead.ended ≡ true → IsAtEnd (S.left source.now) } by { Prim.hlevel (props, IsAtEnd-prop) },
 }
 
 impl<'a, S: Source> LineReader<'a, S> {
@@ -31,7 +36,7 @@ impl<'a, S: Source> LineReader<'a, S> {
         ensures ok { IsOk result }
         ensures same_source { IfOk result (λ reader. reader.source.ghost_name ≡ source.entry.ghost_name) }
         ensures source_kept { IfOk result (λ reader. reader.source.now ≡ source.old) }
-        ensures start { IfOk result (λ reader. (reader.ahead ≡ record { bytes = []; room = most }) × (reader.told ≡ 0) × (reader.ended ≡ false)) }
+        ensures start { IfOk result (λ reader. (reader.ahead ≡ record { bytes = []; room = most; ended = false }) × (reader.told ≡ 0) × (reader.ended ≡ false)) }
     {
         Ok(LineReader {
             alloc,
@@ -63,6 +68,7 @@ impl<'a, S: Source> LineReader<'a, S> {
         ensures read_fault { IsErrOf result LineFault.Read → Rose (S.faults self.old.source.now) (S.faults self.new.source.now) }
         ensures no_fault { result ≢ Err LineFault.Read → S.faults self.new.source.now ≡ S.faults self.old.source.now }
         ensures no_memory { IsErrOf result LineFault.NoMemory → HasByte (unread self.old) }
+        ensures ends { TellsEndOnce self.old.ahead.ended self.new.ahead.ended (S.ends self.old.source.now) (S.ends self.new.source.now) }
     {
         self.ended = true;
         let got = read_line(self.alloc, self.source, &mut self.ahead)?;

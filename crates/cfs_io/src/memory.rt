@@ -3,9 +3,10 @@ ghost use Rattle.std.specs.Prelude.{◌≡◌, ◌≤◌, ◌<◌, ◌-◌, ◌�
 ghost use Rattle.std.specs.Io.{ReadsAtMost};
 ghost use Rattle.std.specs.Io.KnownBytes.{ReadConsumes, WriteAppends};
 ghost use Rattle.cfs_io.specs.Causes.{HasCause, TakesSome, one_more};
+ghost use Rattle.cfs_io.specs.Ends.{ends_after};
 ghost use Rattle.cfs_io.specs.Memory.{is_told};
 
-use crate::pieces::move_piece;
+use crate::pieces::{ends_with, move_piece};
 use crate::traits::{Failed, Sink, Source};
 use cfs_ids::NoMemory;
 use std::alloc::Global;
@@ -19,6 +20,7 @@ pub struct MemSource {
     fails: Vec<u64>,
     calls: u64,
     faults: u64,
+    ends: u64,
     ghost within: { at ≤ vec_len bytes },
     ghost gives: { 0 < piece },
 }
@@ -29,6 +31,7 @@ impl MemSource {
         requires { 0 < piece }
         ensures left { ⟦<MemSource as Source>⟧.left result ≡ Some bytes.items }
         ensures faults { ⟦<MemSource as Source>⟧.faults result ≡ 0 }
+        ensures ends { ⟦<MemSource as Source>⟧.ends result ≡ 0 }
         ensures piece { result.piece ≡ piece }
         ensures fails { result.fails ≡ fails }
         ensures calls { result.calls ≡ 0 }
@@ -40,6 +43,7 @@ impl MemSource {
             fails,
             calls: 0,
             faults: 0,
+            ends: 0,
         }
     }
 }
@@ -49,10 +53,13 @@ impl Source for MemSource {
 
     ghost faults = { λ s. s.faults };
 
+    ghost ends = { λ s. s.ends };
+
     fn read(&mut self, buf: &mut [u8]) -> Result<usize, Failed>
         ensures bound { ReadsAtMost result buf.new }
         ensures bytes { ReadConsumes (⟦<MemSource as Source>⟧.left self.old) (⟦<MemSource as Source>⟧.left self.new) result buf.new }
         ensures cause { HasCause self.old.faults self.new.faults result }
+        ensures ends { self.new.ends ≡ ends_after self.old.ends result }
 
         // It fails at the calls that it was told, and at no other.
         ensures fails { IsErr result ↔ IsTrue (is_told self.old.fails.items self.new.calls) }
@@ -68,6 +75,7 @@ impl Source for MemSource {
             return Err(Failed);
         }
         let count = move_piece(&self.bytes[self.at..], self.piece, buf);
+        self.ends = ends_with(self.ends, count);
         self.at += count;
         Ok(count)
     }

@@ -1,5 +1,6 @@
 //! The bytes that move at one read.
-ghost use Rattle.std.specs.Prelude.{◌≡◌, ◌≤◌, ◌<◌, [], take, length, min};
+ghost use Rattle.std.specs.Prelude.{◌≡◌, ◌≤◌, ◌<◌, ◌==◌, [], if◌then◌else◌, take, length, min};
+ghost use Rattle.cfs_io.specs.Causes.{one_more};
 
 /// The most bytes that are asked of a source at one read.
 pub const PIECE: usize = 4096;
@@ -16,4 +17,15 @@ pub fn move_piece(left: &[u8], piece: usize, buf: &mut [u8]) -> usize
     let count = piece.min(buf.len()).min(left.len());
     buf[..count].copy_from_slice(&left[..count]);
     count
+}
+
+// How often the end was told, with a read that gave so many bytes.
+pub fn ends_with(before: u64, count: usize) -> u64
+    ensures { result ≡ (if count == 0 then one_more before else before) }
+{
+    if count == 0 {
+        before.saturating_add(1)
+    } else {
+        before
+    }
 }

@@ -1,6 +1,7 @@
 //! Devices over a reader and a writer of std.
 ghost use Rattle.std.specs.Prelude.{◌≡◌};
 
+use crate::pieces::ends_with;
 use crate::traits::{Failed, Sink, Source};
 use std::io::{Read, Write};
 
@@ -9,6 +10,7 @@ use std::io::{Read, Write};
 pub struct StdSource<R: Read + Drop> {
     inner: R,
     faults: u64,
+    ends: u64,
 }
 
 impl<R: Read + Drop> StdSource<R> {
@@ -16,8 +18,13 @@ impl<R: Read + Drop> StdSource<R> {
     pub fn new(inner: R) -> StdSource<R>
         ensures left { ⟦<StdSource<R> as Source>⟧.left result ≡ R.remaining inner }
         ensures faults { ⟦<StdSource<R> as Source>⟧.faults result ≡ 0 }
+        ensures ends { ⟦<StdSource<R> as Source>⟧.ends result ≡ 0 }
     {
-        StdSource { inner, faults: 0 }
+        StdSource {
+            inner,
+            faults: 0,
+            ends: 0,
+        }
     }
 }
 
@@ -26,9 +33,14 @@ impl<R: Read + Drop> Source for StdSource<R> {
 
     ghost faults = { λ s. s.faults };
 
+    ghost ends = { λ s. s.ends };
+
     fn read(&mut self, buf: &mut [u8]) -> Result<usize, Failed> {
         match self.inner.read(buf) {
-            Ok(count) => Ok(count),
+            Ok(count) => {
+                self.ends = ends_with(self.ends, count);
+                Ok(count)
+            }
             Err(_) => {
                 self.faults = self.faults.saturating_add(1);
                 Err(Failed)

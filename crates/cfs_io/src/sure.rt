@@ -2,7 +2,7 @@
 ghost use Rattle.std.specs.Prelude.{◌≡◌, ◌≤◌, ◌+◌, ◌-◌, ◌^◌, min, length, Some, None, Ok, drop, vec_len};
 ghost use Rattle.cfs_io.specs.Causes.{HasCause};
 
-use crate::pieces::move_piece;
+use crate::pieces::{ends_with, move_piece};
 use crate::traits::{Failed, Sink, Source};
 
 /// Bytes in memory.
@@ -10,15 +10,21 @@ use crate::traits::{Failed, Sink, Source};
 pub struct SureSource {
     bytes: Vec<u8>,
     at: usize,
+    ends: u64,
     ghost within: { at ≤ vec_len bytes },
 }
 
 impl SureSource {
     /// A source of these bytes.
     pub fn new(bytes: Vec<u8>) -> SureSource
-        ensures { ⟦<SureSource as Source>⟧.left result ≡ Some bytes.items }
+        ensures left { ⟦<SureSource as Source>⟧.left result ≡ Some bytes.items }
+        ensures ends { ⟦<SureSource as Source>⟧.ends result ≡ 0 }
     {
-        SureSource { bytes, at: 0 }
+        SureSource {
+            bytes,
+            at: 0,
+            ends: 0,
+        }
     }
 }
 
@@ -27,8 +33,11 @@ impl Source for SureSource {
 
     ghost faults = { λ _. 0 };
 
+    ghost ends = { λ s. s.ends };
+
     fn read(&mut self, buf: &mut [u8]) -> Result<usize, Failed> {
         let count = move_piece(&self.bytes[self.at..], usize::MAX, buf);
+        self.ends = ends_with(self.ends, count);
         self.at += count;
         Ok(count)
     }

@@ -1,9 +1,10 @@
 //! What a source and a sink promise.
-ghost use Rattle.std.specs.Prelude.{◌≤◌, ◌<◌, ℕ, List, length, IfOk};
+ghost use Rattle.std.specs.Prelude.{◌≡◌, ◌≤◌, ◌<◌, ℕ, List, length, IfOk};
 ghost use Rattle.std.specs.declared.option.Option.{Option};
 ghost use Rattle.std.specs.Io.{ReadsAtMost};
 ghost use Rattle.std.specs.Io.KnownBytes.{ReadConsumes, WriteAppends};
 ghost use Rattle.cfs_io.specs.Causes.{HasCause, TakesSome};
+ghost use Rattle.cfs_io.specs.Ends.{ends_after};
 
 /// A read or a write failed. Nothing was moved.
 #[derive(Clone, Copy, Debug, PartialEq, Eq)]
@@ -17,14 +18,18 @@ pub trait Source {
     // How often it has failed. At the greatest u64 the count can't rise.
     ghost faults: { Self → ℕ };
 
+    // How often it has told the end of input. At the greatest u64 the count can't rise.
+    ghost ends: { Self → ℕ };
+
     /// Moves the first bytes that are left into `buf`, which isn't empty, and says how many. `Ok(0)` is the end of
-    /// input. `Failed` comes where the device failed: nothing was moved, and the count of faults rose, or stands at the
-    /// greatest u64. With any other answer the count stays.
+    /// input, and raises the count of ends. `Failed` comes where the device failed: nothing was moved, and the count of
+    /// faults rose, or stands at the greatest u64. With any other answer a count stays.
     fn read(&mut self, buf: &mut [u8]) -> Result<usize, Failed>
         requires { 0 < length buf.old }
         ensures bound { ReadsAtMost result buf.new }
         ensures bytes { ReadConsumes (left self.old) (left self.new) result buf.new }
-        ensures cause { HasCause (faults self.old) (faults self.new) result };
+        ensures cause { HasCause (faults self.old) (faults self.new) result }
+        ensures ends { ends self.new ≡ ends_after (ends self.old) result };
 }
 
 /// Where bytes go, in their order.

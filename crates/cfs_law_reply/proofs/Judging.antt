@@ -3,10 +3,10 @@ use Rattle.std.proofs.Common.{ℕ, List, map, reverse, sym, subst}
 use Rattle.cfs_rules.specs.Histories.{history_of, world_history}
 use Rattle.cfs_rules.specs.Members.{HasCallers, IsRising}
 use Rattle.cfs_rules.specs.Worlds.{Setup, IsSetup, calls_of, client_of, played}
-use Rattle.cfs_laws.proofs.Histories.{history_legal, history_final, history_moves}
-use Rattle.cfs_laws.proofs.EachLine.{each-line}
-use Rattle.cfs_laws.proofs.Whole.{legal-whole}
-use Rattle.cfs_laws_lines.proofs.Lines.{ends_own, steps_in_lines}
+use Rattle.cfs_laws_history.proofs.Histories.{history_legal, history_final, history_moves}
+use Rattle.cfs_laws_history.proofs.EachLine.{each-line}
+use Rattle.cfs_laws_history.proofs.Whole.{legal-whole}
+use Rattle.cfs_laws_order.proofs.Lines.{ends_own, steps_in_lines}
 use Rattle.cfs_core.specs.Finished.{IsRunOf}
 use Rattle.cfs_core.specs.declared.run.Run.{Run}
 use Rattle.cfs_law_reply.specs.Judged.{IsJudged}

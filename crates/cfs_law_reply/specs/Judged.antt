@@ -7,8 +7,8 @@ use Rattle.cfs_rules.specs.Histories.{lines_of, world_history}
 use Rattle.cfs_rules.specs.Legal.{Each, IsLegal, final}
 use Rattle.cfs_rules.specs.Trees.{tree}
 use Rattle.cfs_rules.specs.Worlds.{World, calls_of, client_of}
-use Rattle.cfs_laws.specs.EachLine.{HasEachLine}
-use Rattle.cfs_laws_lines.specs.OwnSteps.{HasOwnEnds, IsInALine, steps_at}
+use Rattle.cfs_laws_history.specs.EachLine.{HasEachLine}
+use Rattle.cfs_laws_order.specs.OwnSteps.{HasOwnEnds, IsInALine, steps_at}
 
 -- the items are the history of these clients in the world: a legal one, that ends in the tree of the places, which is
 -- whole, has each move of the run in exactly one line, loses no call, begins and ends each line at steps of its client,

@@ -8,7 +8,7 @@ use Rattle.cfs_rules.specs.Worlds.{World, Counts, run_of}
 use Rattle.cfs_core.specs.Clients.{number_in}
 use Rattle.cfs_core.specs.Cores.{world_of}
 use Rattle.cfs_core.specs.declared.service.Core.{Core}
-use Rattle.cfs_script.specs.Lists.{turns_in, count_in}
+use Rattle.cfs_setup.specs.Lists.{turns_in, count_in}
 use Rattle.cfs_law_tree.specs.Drives.{StopsIn, StopsFull}
 use Rattle.cfs_law_tree.proofs.Runs.{run-append}
 

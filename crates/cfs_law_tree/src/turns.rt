@@ -7,12 +7,12 @@ ghost use Rattle.cfs_rules.specs.Trees.{tree};
 ghost use Rattle.cfs_rules.specs.Worlds.{Setup, run_of};
 ghost use Rattle.cfs_core.specs.Clients.{number_in};
 ghost use Rattle.cfs_core.specs.Cores.{counts_of, world_of, members_of, steps_of};
-ghost use Rattle.cfs_script.specs.Lists.{turns_in, count_in};
+ghost use Rattle.cfs_setup.specs.Lists.{turns_in, count_in};
 ghost use Rattle.cfs_law_tree.specs.Drives.{is_turn_of, are_turns_of, IsPlayed, StopsIn, StopsFull, world_at};
 
 use cfs_core::{Core, Turned};
 use cfs_ids::{Actor, NoMemory, PlaceNo};
-use cfs_script::TurnList;
+use cfs_setup::TurnList;
 
 /// What a list of turns came to.
 #[derive(Clone, Copy, Debug, PartialEq, Eq)]

@@ -7,7 +7,7 @@ use Rattle.cfs_steps.specs.declared.entry.Entry.{Entry}
 use Rattle.cfs_steps.specs.declared.moves.Moved.{Moved}
 use Rattle.cfs_steps.specs.declared.moves.Moved.TheVariants.{Move}
 use Rattle.cfs_rules.specs.Facts.{MovesAllowed, IsAllowed, after_moved, space}
-use Rattle.cfs_laws_whole.proofs.Whole.{empty_root-whole, whole-after}
+use Rattle.cfs_laws_namespace.proofs.Whole.{empty_root-whole, whole-after}
 
 whole-moved : (n : Namespace) (moved : Option Moved) → IsAllowed n moved → IsWhole n → IsWhole (after_moved n moved)
 whole-moved n None may whole = whole

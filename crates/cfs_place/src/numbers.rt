@@ -1,5 +1,5 @@
 //! A list of numbers in a cell: a caller, as it is written.
-ghost use Rattle.std.specs.Prelude.{◌≡◌, ℕ, List, [], ◌∷◌, ◌++◌, length, IsSome, OnOk, OnErr};
+ghost use Rattle.std.specs.Prelude.{◌≡◌, ℕ, List, [], ◌∷◌, ◌++◌, ◌+◌, length, IsSome, OnOk, OnErr};
 ghost use Rattle.cfs_place.specs.Logs.{GrowsBy};
 ghost use Rattle.cfs_place.specs.Views.{HasFixed};
 ghost use Rattle.cfs_place.specs.Numbers.{number};
@@ -79,8 +79,8 @@ impl Numbers {
     }
 }
 
-/// Takes the list as soon as it is there, adds a number under the pass's own number, and gives the list back. The Err
-/// is want of memory, and nothing was added. It may wait.
+/// Takes the list as soon as it is there, once, adds a number under the pass's own number, and gives the list back. The
+/// Err is want of memory; nothing was added then, and the list was taken all the same. It may wait.
 pub fn add_number<R: Wait>(
     rt: &R,
     cell: &Cell<Numbers>,
@@ -94,6 +94,7 @@ pub fn add_number<R: Wait>(
     ensures made { OnOk result ((knows pass.new).made ≡ (knows pass.old).made ++ number by value ∷ []) }
     ensures none { OnErr result ((knows pass.new).made ≡ (knows pass.old).made) }
     ensures by { (knows pass.new).by ≡ by }
+    ensures takes { (knows pass.new).takes ≡ (knows pass.old).takes + 1 }
     ensures book { ((knows pass.new).leads ≡ (knows pass.old).leads) × ((knows pass.new).out ≡ (knows pass.old).out) }
 {
     for _ in rt.forever() {
@@ -105,7 +106,7 @@ pub fn add_number<R: Wait>(
     unreachable!()
 }
 
-/// Adds a number to the list that the pass has taken, and gives the list back.
+/// Adds a number to the list that the pass has taken, and gives the list back. It doesn't take it again.
 pub fn add_to<R: Wait>(
     rt: &R,
     mut held: Held<'_, Numbers>,
@@ -122,6 +123,7 @@ pub fn add_to<R: Wait>(
     ensures made { OnOk result ((knows pass.new).made ≡ (knows pass.old).made ++ number by value ∷ []) }
     ensures none { OnErr result ((knows pass.new).made ≡ (knows pass.old).made) }
     ensures by { (knows pass.new).by ≡ by }
+    ensures takes { (knows pass.new).takes ≡ (knows pass.old).takes }
     ensures book { ((knows pass.new).leads ≡ (knows pass.old).leads) × ((knows pass.new).out ≡ (knows pass.old).out) }
 {
     let added = held.value().add(by, value);

@@ -10,7 +10,7 @@ use Rattle.cfs_ids.specs.declared.ids.Client.{Client}
 use Rattle.cfs_rules.specs.Members.{HasCallers, IsBelowAll, IsRising}
 use Rattle.cfs_rules.specs.Worlds.{Ends}
 use Rattle.cfs_walk.specs.declared.command.Command.{Command}
-use Rattle.cfs_script.specs.Lists.{rises_from}
+use Rattle.cfs_setup.specs.Lists.{rises_from}
 use Rattle.cfs_script.specs.Outcomes as script
 use Rattle.cfs_core.specs.Opening.{plans_in, members_in}
 use Rattle.cfs_law_tree.specs.Drives.{is_turn_of, are_turns_of}

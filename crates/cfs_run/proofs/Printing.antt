@@ -7,7 +7,7 @@ use Rattle.cfs_core.specs.Opening.{members_in}
 use Rattle.cfs_core.specs.declared.run.Run.{Run}
 use Rattle.cfs_law_reply.specs.Judged.{IsJudged}
 use Rattle.cfs_print.specs.declared.printed.Printed.{Printed}
-use Rattle.cfs_script.specs.declared.script.Script.{Script}
+use Rattle.cfs_setup.specs.declared.script.Script.{Script}
 use Rattle.cfs_script.specs.Outcomes.{IsInForm}
 use Rattle.cfs_view.specs.declared.counts.Tallied.{Tallied}
 use Rattle.cfs_view.specs.Tallies.{tallied}

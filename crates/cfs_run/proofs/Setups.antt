@@ -5,8 +5,9 @@ use Rattle.std.specs.List.{list_all}
 use Rattle.cfs_ids.specs.declared.ids.Client.{Client}
 use Rattle.cfs_walk.specs.declared.command.Command.{Command}
 use Rattle.cfs_rules.specs.Worlds.{AreCounts, IsSetup}
-use Rattle.cfs_script.specs.declared.script.Script.{Script}
-use Rattle.cfs_script.specs.Outcomes.{IsInForm, are_built}
+use Rattle.cfs_setup.specs.declared.script.Script.{Script}
+use Rattle.cfs_setup.specs.Built.{are_built}
+use Rattle.cfs_script.specs.Outcomes.{IsInForm}
 use Rattle.cfs_core.specs.Opening.{setup_of}
 use Rattle.cfs_core.proofs.Built.{is-setup, all-formed}
 use Rattle.cfs_core.proofs.Truths.{and_left, and_right, both}

@@ -2,20 +2,20 @@
 use Rattle.std.specs.Prelude.{◌≡◌, ℕ, List, length, map, true}
 use Rattle.cfs_ids.specs.declared.ids.Client.{Client}
 use Rattle.cfs_ids.specs.Namespace.{IsWhole}
-use Rattle.cfs_script.specs.declared.script.Script.{Script}
+use Rattle.cfs_setup.specs.declared.script.Script.{Script}
 use Rattle.cfs_print.specs.declared.printed.Printed.{Printed}
 use Rattle.cfs_rules.specs.Facts.{MovesMatch}
 use Rattle.cfs_rules.specs.Histories.{lines_of, world_history}
 use Rattle.cfs_rules.specs.Legal.{Each, IsLegal, final}
 use Rattle.cfs_rules.specs.Trees.{tree, owed_in, strays_in}
 use Rattle.cfs_rules.specs.Worlds.{World, Counts, calls_of, client_of, played}
-use Rattle.cfs_laws.specs.EachLine.{HasEachLine}
-use Rattle.cfs_laws_lines.specs.OwnSteps.{HasOwnEnds, IsInALine, steps_at}
+use Rattle.cfs_laws_history.specs.EachLine.{HasEachLine}
+use Rattle.cfs_laws_order.specs.OwnSteps.{HasOwnEnds, IsInALine, steps_at}
 use Rattle.cfs_steps.specs.declared.call_done.ClientCalls.{ClientCalls}
 use Rattle.cfs_walk.specs.declared.command.Command.{Command}
 use Rattle.cfs_core.specs.Clients.{number_in}
 use Rattle.cfs_core.specs.Opening.{setup_of, members_in}
-use Rattle.cfs_script.specs.Lists.{turns_in}
+use Rattle.cfs_setup.specs.Lists.{turns_in}
 use Rattle.cfs_run.specs.Replies.{replies_of}
 
 -- the world after the turns of the script

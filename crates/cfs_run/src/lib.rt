@@ -6,10 +6,8 @@ mod middle;
 mod print;
 mod replies;
 mod status;
-mod sure;
 mod top;
 
 pub use gate::{FreeGate, Gate};
 pub use status::Status;
-pub use sure::replay_bytes;
 pub use top::{cfs_words, replay};

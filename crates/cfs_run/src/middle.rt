@@ -12,7 +12,7 @@ use cfs_ids::{NoMemory, PlaceNo};
 use cfs_law_reply::history;
 use cfs_law_tree::{Driven, drive};
 use cfs_print::Printed;
-use cfs_script::Script;
+use cfs_setup::Script;
 use cfs_view::{tally, tree_of};
 use std::alloc::Global;
 

@@ -9,7 +9,7 @@ use crate::middle::{RunFault, printed};
 use cfs_ids::PlaceNo;
 use cfs_io::{Failed, Sink};
 use cfs_print::{NamedFiles, write_run};
-use cfs_script::Script;
+use cfs_setup::Script;
 use std::alloc::Global;
 
 /// Why a run is not printed, or not all of it.

@@ -11,9 +11,8 @@ ghost use Rattle.cfs_run.specs.Replies.{replies_in, has_stepped, open_line, repl
 use cfs_core::TRIES;
 use cfs_ids::{Client, NoMemory, Reply};
 use cfs_print::{CommandReply, ReplyTable};
-use cfs_script::CommandList;
 use cfs_steps::{CallDone, ClientCalls};
-use cfs_walk::{Command, Walk};
+use cfs_walk::{Command, CommandList, Walk};
 use std::alloc::Global;
 
 // Lets the walk hear the replies to the calls from the index on, until it has a reply or no call is left. The index

@@ -1,9 +1,9 @@
 //! The top calls.
-ghost use Rattle.std.specs.Prelude.{◌≡◌, ◌≢◌, ◌↔◌, ℕ, List, map, string_bytes, Ok, Some, None, IsSome};
+ghost use Rattle.std.specs.Prelude.{◌≡◌, ◌≢◌, ◌≤◌, ◌+◌, ◌↔◌, ℕ, List, map, string_bytes, Ok, Some, None, IsSome};
 ghost use Rattle.cfs_ids.specs.declared.ids.PlaceNo.{PlaceNo};
 ghost use Rattle.cfs_io.specs.Causes.{Rose};
 ghost use Rattle.cfs_grammar.specs.declared.fault.Fault.{Fault};
-ghost use Rattle.cfs_script.specs.declared.script.Script.{Script};
+ghost use Rattle.cfs_setup.specs.declared.script.Script.{Script};
 ghost use Rattle.cfs_script.specs.Forms.{IsScript};
 ghost use Rattle.cfs_script.specs.Outcomes.{HasRefused};
 ghost use Rattle.cfs_script.specs.Scripts.{script_of};
@@ -36,6 +36,9 @@ pub fn replay<S: Source, K: Sink>(alloc: Global, source: &mut S, sink: &mut K) -
     ensures no_write_fault { result ≢ Status.WriteFault → K.faults sink.new ≡ K.faults sink.old }
     ensures cut_off { result ≡ Status.WriteFault → CutOff (S.left source.old) (S.left source.new) (K.taken sink.old) (K.taken sink.new) }
     ensures untouched { ComesBeforeWriting result → sink.new ≡ sink.old }
+
+    // The end of input is told once at most, so that nothing is read behind it.
+    ensures ends { S.ends source.new ≤ S.ends source.old + 1 }
 
     // A log has more room than a script has turns.
     ensures not_full { (place : PlaceNo) → result ≢ Status.LogFull place }
@@ -111,6 +114,9 @@ pub fn cfs_words<R: Threads + Wait + Sync, S: Source, K: Sink, G: Gate + Sync>(
     ensures no_write_fault { result ≢ Status.WriteFault → K.faults sink.new ≡ K.faults sink.old }
     ensures cut_off { result ≡ Status.WriteFault → CutOff (S.left source.old) (S.left source.new) (K.taken sink.old) (K.taken sink.new) }
     ensures untouched { ComesBeforeWriting result → sink.new ≡ sink.old }
+
+    // The end of input is told once at most, so that nothing is read behind it.
+    ensures ends { S.ends source.new ≤ S.ends source.old + 1 }
 
     // A log has more room than a script has turns.
     ensures not_full { (place : PlaceNo) → result ≢ Status.LogFull place }

@@ -11,7 +11,7 @@ use Rattle.cfs_grammar.specs.declared.turns.ListedActor.{ListedActor}
 use Rattle.cfs_grammar.specs.declared.turns.ListedActor.TheVariants.{Client as ListedClient, Renamer, Collector}
 use Rattle.cfs_grammar.specs.declared.turns.ListedTurns.{ListedTurns}
 use Rattle.cfs_script.specs.declared.reading.Reading.{Reading}
-use Rattle.cfs_script.specs.declared.script.Script.{Script}
+use Rattle.cfs_setup.specs.declared.script.Script.{Script}
 use Rattle.cfs_script.specs.Forms.{IsSilent, IsListedIn, SaysPlaces, SaysOrder, SaysTurns, MaySayOrder, MaySayTurns, Each, orders_in, grouped_from, lists_in, texts, all_lines, IsScript}
 use Rattle.cfs_script.specs.Pieces.{lines, rest_of_lines}
 use Rattle.cfs_script.specs.Scripts.{is_list, start, ordered, turned, turn_count, turns_of, client_turns, script_of}

@@ -10,7 +10,7 @@ use Rattle.std.proofs.lemmas.Grind.{flat_map-append}
 use Rattle.std.proofs.Math.Seq.{take-append-add}
 use Rattle.cfs_grammar.specs.declared.fault.Fault.{Fault}
 use Rattle.cfs_script.specs.declared.reading.Reading.{Reading}
-use Rattle.cfs_script.specs.declared.script.Script.{Script}
+use Rattle.cfs_setup.specs.declared.script.Script.{Script}
 use Rattle.cfs_script.specs.Breaks.{ended, IsLine, Begins, IsAllSilent, IsFront, BreaksAt, Breaks}
 use Rattle.cfs_script.specs.Forms.{IsSilent, texts, all_lines}
 use Rattle.cfs_script.specs.Pieces.{lines, rest_of_lines, without_return}

@@ -6,7 +6,7 @@ use Rattle.std.proofs.lemmas.List.Elements.{All-nil, All-cons}
 use Rattle.cfs_grammar.specs.declared.fault.Fault.{Fault}
 use Rattle.cfs_grammar.specs.declared.fault.Fault.TheVariants.{NoPlaces, TooMany}
 use Rattle.cfs_script.specs.declared.reading.Reading.{Reading}
-use Rattle.cfs_script.specs.declared.script.Script.{Script}
+use Rattle.cfs_setup.specs.declared.script.Script.{Script}
 use Rattle.cfs_script.specs.Pieces.{without_return}
 use Rattle.cfs_script.specs.Scripts.{with_text, with_line, or_fault, ended, last_line, after_lines}
 use Rattle.cfs_script.proofs.Through.{IsShort, Goes, with_line-text, with_line-short, last_text, lines_of, texts_of}

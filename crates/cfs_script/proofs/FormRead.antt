@@ -8,7 +8,7 @@ use Rattle.cfs_walk.specs.declared.command.Command.{Command}
 use Rattle.cfs_grammar.specs.declared.order.Order.{Order}
 use Rattle.cfs_grammar.specs.declared.turns.ListedTurns.{ListedTurns}
 use Rattle.cfs_script.specs.declared.reading.Reading.{Reading}
-use Rattle.cfs_script.specs.declared.script.Script.{Script}
+use Rattle.cfs_setup.specs.declared.script.Script.{Script}
 use Rattle.cfs_script.specs.Forms.{IsSilent, MaySayOrder, MaySayTurns, Each, orders_in, grouped_from, grouped, lists_in, texts, all_lines, IsScript}
 use Rattle.cfs_script.specs.Pieces.{lines, rest_of_lines}
 use Rattle.cfs_script.specs.Scripts.{is_list, start, ordered, turned, turn_count, client_turns, script_of}

@@ -7,11 +7,11 @@ use Rattle.cfs_ids.specs.declared.ids.Client.{Client}
 use Rattle.cfs_walk.specs.declared.command.Command.{Command}
 use Rattle.cfs_grammar.specs.declared.order.Order.{Order}
 use Rattle.cfs_grammar.specs.declared.turns.ListedTurns.{ListedTurns}
-use Rattle.cfs_script.specs.declared.script.Script.{Script}
-use Rattle.cfs_script.specs.Built.{is_built}
+use Rattle.cfs_setup.specs.declared.script.Script.{Script}
+use Rattle.cfs_setup.specs.Built.{is_built, are_built}
 use Rattle.cfs_script.specs.Forms.{MaySayOrder, MaySayTurns, Each, orders_in, grouped_from, grouped, IsCount, IsScript}
-use Rattle.cfs_script.specs.Lists.{with_command}
-use Rattle.cfs_script.specs.Outcomes.{are_turns_of, are_built, IsInForm}
+use Rattle.cfs_setup.specs.Lists.{with_command}
+use Rattle.cfs_script.specs.Outcomes.{are_turns_of, IsInForm}
 use Rattle.cfs_script.specs.Scripts.{client_turns, script_of}
 use Rattle.cfs_script.proofs.Accepted.{script_of-accepted}
 use Rattle.cfs_script.proofs.Turning.{flat, client_turns-append, turns-members, count_in-turns}

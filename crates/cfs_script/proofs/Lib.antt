@@ -5,7 +5,6 @@ pub mod Cuts
 pub mod Cutting
 pub mod FirstWords
 pub mod FormRead
-pub mod Grouping
 pub mod InForm
 pub mod Joined
 pub mod Lacking

@@ -7,7 +7,7 @@ use Rattle.std.proofs.lemmas.List.{append_cancel_left}
 use Rattle.std.proofs.lemmas.List.Folds.{list_all-append}
 use Rattle.std.proofs.lemmas.Grind.{flat_map-append}
 use Rattle.cfs_grammar.specs.declared.fault.Fault.{Fault}
-use Rattle.cfs_script.specs.declared.script.Script.{Script}
+use Rattle.cfs_setup.specs.declared.script.Script.{Script}
 use Rattle.cfs_script.specs.Breaks.{ended, Begins, IsAllSilent, IsFront, BreaksAt, Breaks, IsRefusedAt}
 use Rattle.cfs_script.specs.Pieces.{lines}
 use Rattle.cfs_script.specs.Scripts.{script_of}

@@ -15,9 +15,9 @@ use Rattle.cfs_grammar.specs.Orders.{order_said}
 use Rattle.cfs_grammar.specs.Turns.{turns_said}
 use Rattle.cfs_grammar.specs.Words.{words, is_comment}
 use Rattle.cfs_script.specs.declared.reading.Reading.{Reading}
-use Rattle.cfs_script.specs.Built.{is_built}
+use Rattle.cfs_setup.specs.Built.{is_built}
 use Rattle.cfs_script.specs.Forms.{IsSilent, Has, SaysPlaces, SaysOrder, SaysTurns}
-use Rattle.cfs_script.specs.Lists.{is_in}
+use Rattle.cfs_setup.specs.Lists.{is_in}
 use Rattle.cfs_script.specs.Scripts.{and_then, is_list, start, ordered, with_order, client_line, with_stop, stop_line, all_listed, turn_count, is_client, turned, with_turns, turns_line, in_kind, by_words, with_text}
 use Rattle.cfs_script.proofs.FirstWords.{word_of, kind_of-word, kind_of-word_of}
 use Rattle.cfs_script.proofs.Turning.{AreListedIn, all_listed-said, listed-clients, all_listed-from, all-clients}

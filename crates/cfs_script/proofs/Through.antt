@@ -6,7 +6,7 @@ use Rattle.std.proofs.lemmas.List.Elements.{All-nil, All-cons, All-head, All-tai
 use Rattle.cfs_grammar.specs.declared.fault.Fault.{Fault}
 use Rattle.cfs_grammar.specs.declared.fault.Fault.TheVariants.{LineTooLong}
 use Rattle.cfs_script.specs.declared.reading.Reading.{Reading}
-use Rattle.cfs_script.specs.declared.script.Script.{Script}
+use Rattle.cfs_setup.specs.declared.script.Script.{Script}
 use Rattle.cfs_script.specs.Forms.{with_rest, all_lines, texts}
 use Rattle.cfs_script.specs.Pieces.{lines, rest_of_lines, without_return}
 use Rattle.cfs_script.specs.Scripts.{with_text, with_line, or_fault, ended, last_line, after_lines, script_of, most_bytes}

@@ -4,9 +4,9 @@ use Rattle.std.specs.Prelude.{IfOk, IfErr}
 use Rattle.std.specs.declared.option.Option.{Option}
 use Rattle.cfs_io.specs.Input.{ReadsWithin}
 use Rattle.cfs_io.proofs.Told.{ReadsWithin-told}
-use Rattle.cfs_script.specs.declared.script.Script.{Script}
-use Rattle.cfs_script.specs.declared.script.ScriptRefusal.{ScriptRefusal}
-use Rattle.cfs_script.specs.declared.script.ScriptRefusal.TheVariants.{ReadFault, Bad, NoMemory}
+use Rattle.cfs_setup.specs.declared.script.Script.{Script}
+use Rattle.cfs_script.specs.declared.refusal.ScriptRefusal.{ScriptRefusal}
+use Rattle.cfs_script.specs.declared.refusal.ScriptRefusal.TheVariants.{ReadFault, Bad, NoMemory}
 use Rattle.cfs_script.specs.Forms.{IsScript}
 use Rattle.cfs_script.specs.Scripts.{script_of, most_bytes}
 use Rattle.cfs_script.specs.Outcomes.{IsInForm, Reads, Gives, Answers}

@@ -11,7 +11,7 @@ use Rattle.cfs_grammar.specs.declared.turns.ListedTurns.{ListedTurns}
 use Rattle.cfs_grammar.specs.Turns.{turns_said}
 use Rattle.cfs_script.specs.declared.reading.Reading.{Reading}
 use Rattle.cfs_script.specs.Forms.{IsListedIn}
-use Rattle.cfs_script.specs.Lists.{is_in, count_in}
+use Rattle.cfs_setup.specs.Lists.{is_in, count_in}
 use Rattle.cfs_script.specs.Outcomes.{are_turns_of}
 use Rattle.cfs_script.specs.Scripts.{is_known, known, onto, all_listed, turn_count, is_client, turns_of, client_turns}
 use Rattle.cfs_script.proofs.Choices.{and-left, and-right, and-both}

@@ -2,7 +2,7 @@
 use Rattle.std.specs.Prelude.{◌≡◌, ◌≢◌, ℕ, ◌+◌, ◌≤◌, List, ◌∷◌, [], ◌++◌, length, Result, Ok, Err, ◌⊎◌}
 use Rattle.std.specs.List.{All, flat_map}
 use Rattle.cfs_grammar.specs.declared.fault.Fault.{Fault}
-use Rattle.cfs_script.specs.declared.script.Script.{Script}
+use Rattle.cfs_setup.specs.declared.script.Script.{Script}
 use Rattle.cfs_script.specs.Forms.{IsScript, IsSilent, all_lines, texts}
 
 -- each line ends with LF

@@ -1,7 +1,5 @@
 pub mod Breaks
-pub mod Built
 pub mod Forms
-pub mod Lists
 pub mod Outcomes
 pub mod Pieces
 pub mod Scripts

@@ -10,13 +10,13 @@ use Rattle.cfs_walk.specs.declared.command.Command.{Command}
 use Rattle.cfs_grammar.specs.declared.fault.Fault.{Fault}
 use Rattle.cfs_grammar.specs.declared.fault.Refusal.{Refusal}
 use Rattle.cfs_grammar.specs.declared.fault.Refusal.TheVariants.{Fault as LineFault, NoMemory as LineNoMemory}
-use Rattle.cfs_script.specs.declared.script.Script.{Script}
-use Rattle.cfs_script.specs.declared.script.ScriptRefusal.{ScriptRefusal}
-use Rattle.cfs_script.specs.declared.script.ScriptRefusal.TheVariants.{ReadFault, Bad, NoMemory}
+use Rattle.cfs_setup.specs.declared.script.Script.{Script}
+use Rattle.cfs_script.specs.declared.refusal.ScriptRefusal.{ScriptRefusal}
+use Rattle.cfs_script.specs.declared.refusal.ScriptRefusal.TheVariants.{ReadFault, Bad, NoMemory}
 use Rattle.cfs_script.specs.Breaks.{Breaks}
-use Rattle.cfs_script.specs.Built.{is_built}
+use Rattle.cfs_setup.specs.Built.{are_built}
 use Rattle.cfs_script.specs.Forms.{IsCount, IsScript}
-use Rattle.cfs_script.specs.Lists.{rises_from, is_in, count_in}
+use Rattle.cfs_setup.specs.Lists.{rises_from, is_in, count_in}
 use Rattle.cfs_script.specs.Scripts.{script_of, most_bytes}
 
 -- the turn is of a client that has commands
@@ -25,10 +25,6 @@ is_turn_of lists (ClientTurn client) = is_in lists client
 
 abbrev pub are_turns_of : List (Client × List Command) → Actor × ℕ → Bool
 are_turns_of lists listed = is_turn_of lists listed.0
-
--- all commands of the client are built
-abbrev pub are_built : Client × List Command → Bool
-are_built list = list_all is_built list.1
 
 -- what holds of each script that is read
 pub record IsInForm (script : Script) : Type 0 where

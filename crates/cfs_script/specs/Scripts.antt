@@ -20,9 +20,9 @@ use Rattle.cfs_grammar.specs.Orders.{order_said}
 use Rattle.cfs_grammar.specs.Turns.{turns_said}
 use Rattle.cfs_grammar.specs.Words.{words, is_comment}
 use Rattle.cfs_script.specs.declared.reading.Reading.{Reading}
-use Rattle.cfs_script.specs.declared.script.Script.{Script}
-use Rattle.cfs_script.specs.Built.{is_built}
-use Rattle.cfs_script.specs.Lists.{is_in, with_command}
+use Rattle.cfs_setup.specs.declared.script.Script.{Script}
+use Rattle.cfs_setup.specs.Built.{is_built}
+use Rattle.cfs_setup.specs.Lists.{is_in, with_command}
 use Rattle.cfs_script.specs.Pieces.{lines, rest_of_lines, without_return}
 
 -- what follows, where the words are good

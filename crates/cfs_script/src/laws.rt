@@ -1,6 +1,6 @@
 //! What the form and the reader's lines have to do with each other.
 ghost use Rattle.std.specs.Prelude.{◌≡◌, ◌↔◌, ℕ, List, Ok};
-ghost use Rattle.cfs_script.specs.declared.script.Script.{Script};
+ghost use Rattle.cfs_setup.specs.declared.script.Script.{Script};
 ghost use Rattle.cfs_script.specs.Breaks.{Breaks, IsRefusedAt};
 ghost use Rattle.cfs_script.specs.Forms.{IsScript};
 ghost use Rattle.cfs_script.specs.Scripts.{script_of};

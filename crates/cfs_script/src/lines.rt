@@ -6,17 +6,15 @@ ghost use Rattle.cfs_script.specs.Pieces.{lines, rest_of_lines, without_return};
 ghost use Rattle.cfs_script.specs.Scripts.{is_list, start, with_order, client_line, stop_line, by_kind, with_text, with_line, ended, last_line, after_lines};
 ghost use Rattle.cfs_script.specs.Outcomes.{Gives, refusal_of};
 
-use crate::built::built;
 use crate::cut::{cut_line, text_of};
 use crate::listed::with_turns_line;
-use crate::lists::CommandLists;
 use crate::reading::Reading;
-use crate::script::{Script, ScriptRefusal};
-use crate::turns::TurnList;
+use crate::refusal::ScriptRefusal;
 use cfs_grammar::{
     Counts, Fault, LineKind, Order, Refusal, cut_word, is_comment, read_kind, read_order,
     read_places, read_stop,
 };
+use cfs_setup::{CommandLists, Script, TurnList, built};
 use cfs_walk::Command;
 use std::alloc::Global;
 

@@ -7,9 +7,9 @@ ghost use Rattle.cfs_grammar.specs.Words.{words};
 ghost use Rattle.cfs_script.specs.Scripts.{known, all_listed, turn_count, is_client, client_turns, with_turns, turns_line};
 
 use crate::reading::Reading;
-use crate::turns::TurnList;
 use cfs_grammar::{Fault, ListedActor, ListedTurns, Refusal, cut_word, read_turns};
 use cfs_ids::{Actor, NoMemory};
+use cfs_setup::TurnList;
 use std::alloc::Global;
 
 const MOST_TURNS: u64 = 1_000_000;

@@ -1,6 +1,6 @@
 //! A script that is being read.
 
-use crate::script::Script;
+use cfs_setup::Script;
 
 // The script of the lines so far, how many commands they have, how many of these list, and how many turns there are.
 #[derive(Debug, Drop)]

@@ -5,8 +5,6 @@ mod answers;
 mod changes;
 mod locks;
 mod shard;
-#[cfg(test)]
-mod tests;
 
 pub use cfs_steps::RowLock;
 pub use cfs_table::{DirRec, Row};

@@ -1,6 +1,6 @@
 //! A path of as many components as a path may have.
 
-use crate::replays::prints;
+use crate::tables::prints;
 use std::alloc::Global;
 use std::test::Fail;
 
@@ -97,5 +97,5 @@ fn text(alloc: Global) -> Result<String, Fail> {
 fn a_path_of_64_components(rt: HostRuntime) -> Result<(), Fail> {
     let script = script(rt.alloc())?;
     let text = text(rt.alloc())?;
-    prints(&rt, script.as_bytes(), text.as_bytes())
+    prints(&rt, "64 components", script.as_bytes(), text.as_bytes())
 }

@@ -1,4 +1,4 @@
-//! Tests of the top calls: replays of scripts, and the words, lines and faults that end a command.
+//! Tests of the top calls: tables of scripts with what each prints or is refused for, and devices that fail.
 #![tactic(auto)]
 
 #[cfg(test)]
@@ -6,7 +6,11 @@ mod creates;
 #[cfg(test)]
 mod deep;
 #[cfg(test)]
-mod faults;
+mod devices;
+#[cfg(test)]
+mod forms;
+#[cfg(test)]
+mod limits;
 #[cfg(test)]
 mod many;
 #[cfg(test)]
@@ -20,4 +24,4 @@ mod places;
 #[cfg(test)]
 mod refusals;
 #[cfg(test)]
-mod replays;
+mod tables;

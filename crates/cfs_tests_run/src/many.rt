@@ -1,6 +1,6 @@
 //! Many clients, and many names.
 
-use crate::replays::prints;
+use crate::tables::prints;
 use std::alloc::Global;
 use std::test::Fail;
 
@@ -58,7 +58,12 @@ fn one_name_text(alloc: Global) -> Result<String, Fail> {
 fn of_32_creates_of_one_name_one_succeeds(rt: HostRuntime) -> Result<(), Fail> {
     let script = one_name_script(rt.alloc())?;
     let text = one_name_text(rt.alloc())?;
-    prints(&rt, script.as_bytes(), text.as_bytes())
+    prints(
+        &rt,
+        "32 creates of one name",
+        script.as_bytes(),
+        text.as_bytes(),
+    )
 }
 
 fn own_names_script(alloc: Global) -> Result<String, Fail> {
@@ -101,11 +106,16 @@ fn own_names_text(alloc: Global) -> Result<String, Fail> {
 fn of_32_creates_of_own_names_all_succeed(rt: HostRuntime) -> Result<(), Fail> {
     let script = own_names_script(rt.alloc())?;
     let text = own_names_text(rt.alloc())?;
-    prints(&rt, script.as_bytes(), text.as_bytes())
+    prints(
+        &rt,
+        "32 creates of own names",
+        script.as_bytes(),
+        text.as_bytes(),
+    )
 }
 
 // The create I, from 0, is of the name 377 * I mod 1000. So the name N is that of the create 313 * N mod 1000.
-fn thousand_script(alloc: Global) -> Result<String, Fail> {
+pub(crate) fn thousand_script(alloc: Global) -> Result<String, Fail> {
     let mut script = String::from_str(alloc, "places 1 1\n")?;
     for create in 0..1000u64 {
         writeln!(script, "client 1 create /{:03}", create * 377 % 1000)?;
@@ -139,7 +149,7 @@ fn add_calls(text: &mut String) -> Result<(), Fail> {
     Ok(())
 }
 
-fn thousand_text(alloc: Global) -> Result<String, Fail> {
+pub(crate) fn thousand_text(alloc: Global) -> Result<String, Fail> {
     let mut text = String::from_str(alloc, "cfs 1\nplaces 1 1\n")?;
     add_calls(&mut text)?;
     text.push_str("l 1 3000 3000 3000 list 0 = rows 1000\n")?;
@@ -161,5 +171,5 @@ fn thousand_text(alloc: Global) -> Result<String, Fail> {
 fn a_list_of_a_thousand_names(rt: HostRuntime) -> Result<(), Fail> {
     let script = thousand_script(rt.alloc())?;
     let text = thousand_text(rt.alloc())?;
-    prints(&rt, script.as_bytes(), text.as_bytes())
+    prints(&rt, "a thousand names", script.as_bytes(), text.as_bytes())
 }

@@ -1,7 +1,7 @@
 //! Many shards and stores, and which of them a node is put in.
 ghost use Rattle.std.specs.Prelude.{◌<◌, ◌≤◌};
 
-use crate::replays::prints;
+use crate::tables::prints;
 use std::alloc::Global;
 use std::process::Abort;
 use std::test::Fail;
@@ -11,14 +11,6 @@ fn has_lines(rt: &impl Abort, text: &str, lines: &[&str]) {
     for line in lines {
         assert!(rt; text.lines().any(|other| other == *line), "no {line}");
     }
-}
-
-#[test]
-fn the_most_shards_and_stores_print_the_root(rt: HostRuntime) -> Result<(), Fail> {
-    let text = "cfs 1\nplaces 64 63\n\
-        t 0 / d0 children=0 links=2 time=0\n\
-        s steps=0 calls=0 unfinished=0 busy=0 forgets=0 owed=0 debts=0 marks=0 strays=0\n";
-    prints(&rt, b"places 64 63\n", text.as_bytes())
 }
 
 // Each client makes a file and a directory, one step of all clients after the other, and ends.
@@ -97,7 +89,12 @@ fn of_32_clients_each_has_its_own_shard_and_store(rt: HostRuntime) -> Result<(),
         "l 32 127 159 191 mkdir 0 d32 = ok 35 d2273",
     ];
     has_lines(&rt, text.as_str(), &lines);
-    prints(&rt, script.as_bytes(), text.as_bytes())
+    prints(
+        &rt,
+        "a shard and a store each",
+        script.as_bytes(),
+        text.as_bytes(),
+    )
 }
 
 // Of 200 puts of client 1, counted from 0, the even ones are files and the odd ones directories.
@@ -172,5 +169,10 @@ fn puts_are_counted_over_files_and_directories(rt: HostRuntime) -> Result<(), Fa
         "t 0 n199 d38274 children=0 links=2 time=598",
     ];
     has_lines(&rt, text.as_str(), &lines);
-    prints(&rt, script.as_bytes(), text.as_bytes())
+    prints(
+        &rt,
+        "puts of both kinds",
+        script.as_bytes(),
+        text.as_bytes(),
+    )
 }

@@ -4,7 +4,7 @@ use Rattle.std.specs.Prelude.{Option, Result, Ok, Err, OnOk, OnErr}
 use Rattle.cfs_ids.specs.declared.ids.Node.{Node}
 use Rattle.cfs_ids.specs.declared.call.Call.{Call}
 use Rattle.cfs_ids.specs.Namespace.{Namespace, after, IsDefined, IsWhole}
-use Rattle.cfs_laws_whole.proofs.Whole.{whole-after}
+use Rattle.cfs_laws_namespace.proofs.Whole.{whole-after}
 
 pub whole-either : {A E : Type 0} (r : Result A E) (n m : Namespace) (call : Call) (made : Option Node) (ts : ℕ) → IsDefined n call made → OnOk r (m ≡ after n call made ts) → OnErr r (m ≡ n) → IsWhole n → IsWhole m
 whole-either (Ok a) n m call made ts h ok err whole = subst IsWhole (sym ok) (whole-after n call made ts h whole)

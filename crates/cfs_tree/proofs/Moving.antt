@@ -13,8 +13,8 @@ use Rattle.cfs_ids.specs.declared.call.Reply.TheVariants.{Moved}
 use Rattle.cfs_ids.proofs.MapLemmas.{get-insert_here}
 use Rattle.cfs_maps.proofs.Inner.{insert-twice}
 use Rattle.cfs_tree.proofs.Making.{IsSome-insert}
-use Rattle.cfs_laws_whole.proofs.Slots.{IsSlot, names-tied, get-insert_apart}
-use Rattle.cfs_laws_whole.proofs.WholeRenames.{renames-moved, names-apart}
+use Rattle.cfs_laws_namespace.proofs.Slots.{IsSlot, names-tied, get-insert_apart}
+use Rattle.cfs_laws_namespace.proofs.WholeRenames.{renames-moved, names-apart}
 
 -- in one directory
 names-commute : (m : Names Node) (name to_name : List ℕ) (node : Node) → name ≢ to_name → remove (insert m to_name node) name ≡ insert (remove m name) to_name node

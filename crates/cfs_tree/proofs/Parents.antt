@@ -13,9 +13,9 @@ use Rattle.cfs_ids.specs.Maps.{Numbers}
 use Rattle.cfs_ids.specs.Namespace.{Directory, Namespace, node_at, names_dir, leads, IsWhole}
 use Rattle.cfs_ids.proofs.Entries.{Distinct, distinct-entries}
 use Rattle.cfs_tree.specs.Upward.{parent_among}
-use Rattle.cfs_laws_whole.proofs.Found.{find-first, find-later, found-name, passes-name, passes-number}
-use Rattle.cfs_laws_whole.proofs.Slots.{listing-there}
-use Rattle.cfs_laws_whole.proofs.Chains.{Lists, ReachesIn, chain-more, chain-last, leads-chain, chain-leads}
+use Rattle.cfs_laws_namespace.proofs.Found.{find-first, find-later, found-name, passes-name, passes-number}
+use Rattle.cfs_laws_namespace.proofs.Slots.{listing-there}
+use Rattle.cfs_laws_namespace.proofs.Chains.{Lists, ReachesIn, chain-more, chain-last, leads-chain, chain-leads}
 
 -- whether a list has the directory
 abbrev has_dir : DirId → Directory → Bool

@@ -1,18 +1,18 @@
 //! What the namespace answers to a call.
-ghost use Rattle.std.specs.Prelude.{◌≡◌, [], IfOk, IsOk, false};
+ghost use Rattle.std.specs.Prelude.{◌≡◌, [], IfOk, IsOk, true, false};
 ghost use Rattle.std.specs.Option.{option_map};
 ghost use Rattle.std.specs.FinMap as map;
 ghost use Rattle.cfs_ids.specs.Namespace.{answer, lookup_in, list_of, dir_stat, file_stat, stat_of, create_in, unlinked, is_empty, removed, cut_to, node_at, rows_of, children_of, links_of, is_listed, IsWhole};
 ghost use Rattle.cfs_tree.specs.Memory.{takes_memory};
+ghost use Rattle.cfs_tree.specs.Upward.{goes_upward};
 
 use crate::namespace::Namespace;
 use crate::rows::any_names_it;
 use cfs_ids::{Call, DirId, Errno, FileId, Name, NoMemory, Node, Reply};
-use std::alloc::Global;
 
 impl Namespace {
-    /// What the call is answered in a whole namespace, by the first line that applies (POSIX.1-2017, System Interfaces,
-    /// ERRORS of `open`, `mkdir`, `unlink`, `rmdir`, `truncate`, `stat`, `opendir` and `rename`):
+    /// What the call is answered, by the first line that applies (POSIX.1-2017, System Interfaces, ERRORS of `open`,
+    /// `mkdir`, `unlink`, `rmdir`, `truncate`, `stat`, `opendir` and `rename`). A rename alone wants a whole namespace:
     /// - all: ENOENT where the directory, the name or the file isn't there;
     /// - `Create` and `Mkdir`: EEXIST where the name is there;
     /// - `Unlink`: EPERM for a directory;
@@ -22,15 +22,15 @@ impl Namespace {
     ///   itself or below.
     ///
     /// The Err is want of memory, which a list alone takes, and that one where there are names to list.
-    pub fn answer(&self, alloc: Global, call: &Call) -> Result<Reply, NoMemory>
-        requires { IsWhole self.now }
+    pub fn answer(&self, call: &Call) -> Result<Reply, NoMemory>
+        requires { goes_upward call.now ≡ true → IsWhole self.now }
         ensures reply { IfOk result (λ reply. reply ≡ answer self.now call.now) }
         ensures sure { takes_memory call.now ≡ false → IsOk result }
         ensures empty_list { (dir : DirId) → call.now ≡ Call.List dir → rows_of (map.get self.now.dirs dir.0) ≡ [] → IsOk result }
     {
         match call {
             Call::Lookup { dir, name } => Ok(self.answer_lookup(*dir, name)),
-            Call::List { dir } => self.answer_list(alloc, *dir),
+            Call::List { dir } => self.answer_list(*dir),
             Call::StatRoot => Ok(self.answer_stat_dir(DirId(0))),
             Call::Stat { dir, name } => Ok(self.answer_stat(*dir, name)),
             Call::Create { dir, name } | Call::Mkdir { dir, name } => {
@@ -60,12 +60,12 @@ impl Namespace {
         }
     }
 
-    fn answer_list(&self, alloc: Global, dir: DirId) -> Result<Reply, NoMemory>
+    fn answer_list(&self, dir: DirId) -> Result<Reply, NoMemory>
         ensures reply { IfOk result (λ reply. reply ≡ list_of (map.get self.now.dirs dir.0)) }
         ensures sure { rows_of (map.get self.now.dirs dir.0) ≡ [] → IsOk result }
     {
         match self.dirs.get(dir.0) {
-            Some(directory) => Ok(Reply::Rows(directory.rows(alloc)?)),
+            Some(directory) => Ok(Reply::Rows(directory.rows(self.alloc)?)),
             None => Ok(Reply::Refused(Errno::Enoent)),
         }
     }

@@ -65,12 +65,12 @@ impl Namespace {
 
     /// Sets the time of the directory, which has no names where it wasn't there. The Err is want of memory for a new
     /// directory, and then nothing changed.
-    pub fn add_dir(&mut self, alloc: Global, dir: DirId, time: Ts) -> Result<(), NoMemory>
+    pub fn add_dir(&mut self, dir: DirId, time: Ts) -> Result<(), NoMemory>
         ensures ok { OnOk result (self.new ≡ with_dir self.old dir time) }
         ensures err { OnErr result (self.new ≡ self.old) }
         ensures there { IsSome (map.get self.old.dirs dir.0) → IsOk result }
     {
-        set_time(alloc, &mut self.dirs, dir, time)
+        set_time(self.alloc, &mut self.dirs, dir, time)
     }
 
     /// Sets the whole directory. The Err is want of memory for a new directory, and then nothing changed.

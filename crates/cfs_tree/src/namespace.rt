@@ -10,7 +10,7 @@ use cfs_maps::NumberMap;
 use std::alloc::Global;
 use std::marker::Model;
 
-/// The directories and the files, by their numbers, and the allocator that a move takes memory from.
+/// The directories and the files, by their numbers, and the allocator that memory is taken from.
 #[derive(Drop)]
 pub struct Namespace {
     pub(crate) alloc: Global,

@@ -7,11 +7,7 @@ mod component;
 mod names;
 mod path;
 mod stage;
-#[cfg(test)]
-mod tests;
 mod walk;
-#[cfg(test)]
-mod walk_tests;
 
 pub use command::{Command, CommandList};
 pub use component::Component;

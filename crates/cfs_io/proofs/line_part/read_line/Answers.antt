@@ -1,9 +1,10 @@
 use Rattle.std.proofs.Common.{◌∙◌, refl}
+use Rattle.cfs_io.proofs.Ending.{TellsEndOnce-still, TellsEndOnce-on}
 use Rattle.cfs_io.proofs.Going.{IsGoing-start, IsGoing-piece, TellsLine-line, bound-line, TellsLine-past, TellsLine-end}
 use Rattle.cfs_io.proofs.line_part.read_line.Goals as goal
 
 pub loop-line-init : goal.loop-line-init
-loop-line-init g c = record { going = IsGoing-start _ _; same = refl }
+loop-line-init g c = record { going = IsGoing-start _ _; same = refl; ends = TellsEndOnce-still _ _; ended = c.requires }
 
 pub returns-in-Line-clause-line : goal.returns-in-Line-clause-line
 returns-in-Line-clause-line g c =
@@ -21,6 +22,8 @@ pub loop-line-preserved : goal.loop-line-preserved
 loop-line-preserved g c = record {
   going = IsGoing-piece _ _ _ _ _ _ _ _ _ c.loop-line.invariant.going c.in_ok-has_more.ensures.room c.in_ok-has_more.ensures.kept (rw c.in-Piece.is at c.in_ok-take_part.ensures.ok);
   same = c.in_ok-has_more.ensures.cause.same ∙ c.loop-line.invariant.same;
+  ends = TellsEndOnce-on _ _ _ _ _ _ c.loop-line.invariant.ends (rw c.in_ok-take_part.ensures.ended c.in_ok-has_more.ensures.ends);
+  ended = rw c.in_ok-take_part.ensures.ended c.in_ok-has_more.ensures.ended;
 }
 
 pub returns-clause-line : goal.returns-clause-line

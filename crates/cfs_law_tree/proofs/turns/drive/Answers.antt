@@ -4,7 +4,7 @@ use Rattle.std.proofs.lemmas.List.{take_all}
 use Rattle.cfs_ids.specs.declared.ids.Actor.{Actor}
 use Rattle.cfs_ids.specs.declared.ids.Actor.TheVariants.{Client as ClientTurn}
 use Rattle.cfs_rules.specs.Worlds.{Counts, run_of}
-use Rattle.cfs_script.specs.Lists.{turns_in}
+use Rattle.cfs_setup.specs.Lists.{turns_in}
 use Rattle.cfs_core.specs.Clients.{number_in}
 use Rattle.cfs_core.specs.Cores.{counts_of, world_of, members_of}
 use Rattle.cfs_law_tree.proofs.Rows.{count_in-more, count_in-take, count_in-with, full-within, run-more-rows, stops-within, turns_in-at}

@@ -1,6 +1,6 @@
 use Rattle.std.proofs.Common.{◌≡◌, ◌≤◌, ◌+◌, map, take}
 use Rattle.cfs_rules.specs.Worlds.{run_of}
-use Rattle.cfs_script.specs.Lists.{turns_in, count_in}
+use Rattle.cfs_setup.specs.Lists.{turns_in, count_in}
 use Rattle.cfs_core.specs.Clients.{number_in}
 use Rattle.cfs_core.specs.Cores.{counts_of, world_of, members_of, steps_of}
 use Rattle.cfs_law_tree.proofs.turns.drive.Given as goal

@@ -5,7 +5,7 @@ use Rattle.cfs_ids.specs.declared.ids.Client.{Client}
 use Rattle.cfs_walk.specs.declared.command.Command.{Command}
 use Rattle.cfs_core.specs.Clients.{number_in}
 use Rattle.cfs_core.specs.Opening.{members_in, setup_of}
-use Rattle.cfs_script.specs.Lists.{turns_in}
+use Rattle.cfs_setup.specs.Lists.{turns_in}
 use Rattle.cfs_run.proofs.Members.{callers, rising}
 use Rattle.cfs_run.proofs.Printing.{of-run}
 use Rattle.cfs_run.proofs.Setups.{setup-of, all-in-form}

@@ -5,7 +5,7 @@ use Rattle.cfs_core.specs.Clients.{number_in}
 use Rattle.cfs_core.specs.Cores.{members_of}
 use Rattle.cfs_core.specs.Finished.{IsRunOf}
 use Rattle.cfs_law_tree.specs.Drives.{are_turns_of}
-use Rattle.cfs_script.specs.Lists.{turns_in}
+use Rattle.cfs_setup.specs.Lists.{turns_in}
 use Rattle.cfs_run.proofs.Members.{turns-of}
 use Rattle.cfs_run.proofs.Setups.{counts-of}
 use Rattle.cfs_run.specs.Runs.{world_after}

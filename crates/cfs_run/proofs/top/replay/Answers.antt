@@ -1,8 +1,8 @@
 use Rattle.std.proofs.Common.{◌≡◌, ℕ, Result, Ok, Err}
 use Rattle.cfs_grammar.specs.declared.fault.Fault.{Fault}
-use Rattle.cfs_script.specs.declared.script.Script.{Script}
-use Rattle.cfs_script.specs.declared.script.ScriptRefusal.{ScriptRefusal}
-use Rattle.cfs_script.specs.declared.script.ScriptRefusal.TheVariants.{Bad}
+use Rattle.cfs_setup.specs.declared.script.Script.{Script}
+use Rattle.cfs_script.specs.declared.refusal.ScriptRefusal.{ScriptRefusal}
+use Rattle.cfs_script.specs.declared.refusal.ScriptRefusal.TheVariants.{Bad}
 use Rattle.cfs_script.specs.Outcomes.{Answers as AnswersScript}
 use Rattle.cfs_run.proofs.top.replay.Goals as goal
 

@@ -1,4 +1,4 @@
-use Rattle.cfs_laws_whole.proofs.Whole.{empty_root-whole}
+use Rattle.cfs_laws_namespace.proofs.Whole.{empty_root-whole}
 use Rattle.cfs_tree.proofs.namespace.Namespace.empty_root.Goals as goal
 
 pub returns-in-Ok-clause-whole : goal.returns-in-Ok-clause-whole

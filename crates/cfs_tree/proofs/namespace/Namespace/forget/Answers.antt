@@ -1,6 +1,6 @@
 use Rattle.std.proofs.Common.{◌≡◌, false, sym, subst}
 use Rattle.cfs_ids.specs.Namespace.{Namespace, is_listed, IsWhole}
-use Rattle.cfs_laws_whole.proofs.Whole.{whole-forgotten}
+use Rattle.cfs_laws_namespace.proofs.Whole.{whole-forgotten}
 use Rattle.cfs_tree.proofs.namespace.Namespace.forget.Goals as goal
 
 pub returns-clause-whole : goal.returns-clause-whole

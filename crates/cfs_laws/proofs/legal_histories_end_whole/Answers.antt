@@ -1,5 +1,0 @@
-use Rattle.cfs_laws.proofs.Whole.{legal-whole}
-use Rattle.cfs_laws.proofs.legal_histories_end_whole.Goals as goal
-
-pub returns : goal.returns
-returns c = legal-whole

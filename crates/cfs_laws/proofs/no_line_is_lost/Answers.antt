@@ -1,5 +1,0 @@
-use Rattle.cfs_laws.proofs.EachLine.{each-line}
-use Rattle.cfs_laws.proofs.no_line_is_lost.Goals as goal
-
-pub returns : goal.returns
-returns c = each-line
