@@ -36,18 +36,28 @@ def told(pid):
     return fields[1], (words[words.index("--crate-name") + 1], kind), SECONDS * sum(map(int, fields[11:15]))
 
 
+def is_below(pid, parents, top):
+    """Whether the process is one that the process top started, or one of these did."""
+    while pid in parents and pid != top:
+        pid = parents[pid]
+    return pid == top
+
+
 def look(seen):
-    """Adds to seen what each process of the prover that no other one started has taken so far."""
-    found = {}
+    """Adds to seen what each process of the prover that this run started, and no other one of the prover, has taken so far."""
+    found, parents = {}, {}
     for pid in filter(str.isdigit, os.listdir("/proc")):
         try:
+            with open(f"/proc/{pid}/stat", encoding="ascii", errors="replace") as file:
+                parents[pid] = file.read().rpartition(")")[2].split()[1]
             it = told(pid)
             if it:
                 found[pid] = it
         except (OSError, ValueError, IndexError):
             continue
+    own = str(os.getpid())
     for pid, (parent, what, seconds) in found.items():
-        if parent not in found:
+        if parent not in found and is_below(pid, parents, own):
             before = seen.get(pid, (what, 0))
             if before[0] != what:
                 # (the number of an ended process was given out again)
