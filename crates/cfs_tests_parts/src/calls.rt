@@ -4,7 +4,7 @@ use std::alloc::Global;
 
 /// What a call does at a name of a directory.
 #[derive(Clone, Copy, PartialEq, Eq)]
-pub enum Verb {
+pub(crate) enum Verb {
     Lookup,
     Stat,
     Create,
@@ -15,7 +15,7 @@ pub enum Verb {
 
 /// A call on directories and files by their numbers, with names of one letter.
 #[derive(Clone, Copy, PartialEq, Eq)]
-pub enum Made {
+pub(crate) enum Made {
     At(Verb, u64, u8),
     List(u64),
     StatRoot,
@@ -25,7 +25,7 @@ pub enum Made {
 
 /// What a call or a command is answered. Rows are seen by their count.
 #[derive(Clone, Copy, PartialEq, Eq)]
-pub enum Told {
+pub(crate) enum Told {
     Moved,
     Kept,
     Dir(u64),
@@ -38,7 +38,7 @@ pub enum Told {
 }
 
 /// The name of one letter.
-pub fn named(alloc: Global, letter: u8) -> Result<Name, NoMemory> {
+pub(crate) fn named(alloc: Global, letter: u8) -> Result<Name, NoMemory> {
     match Name::read(alloc, &[letter]) {
         Ok(name) => Ok(name),
         Err(_) => Err(NoMemory),
@@ -66,7 +66,7 @@ fn call_at(verb: Verb, dir: DirId, name: Name) -> Call {
 }
 
 /// The call of a row.
-pub fn call_of(alloc: Global, made: Made) -> Result<Call, NoMemory> {
+pub(crate) fn call_of(alloc: Global, made: Made) -> Result<Call, NoMemory> {
     match made {
         Made::At(verb, dir, letter) => Ok(call_at(verb, DirId(dir), named(alloc, letter)?)),
         Made::List(dir) => Ok(Call::List { dir: DirId(dir) }),
@@ -75,13 +75,22 @@ pub fn call_of(alloc: Global, made: Made) -> Result<Call, NoMemory> {
             file: FileId(file),
             size,
         }),
-        Made::Rename(dir, letter, to_dir, to_letter) => Ok(Call::Rename {
-            dir: DirId(dir),
-            name: named(alloc, letter)?,
-            to_dir: DirId(to_dir),
-            to_name: named(alloc, to_letter)?,
-        }),
+        Made::Rename(dir, letter, to_dir, to_letter) => {
+            rename(alloc, (dir, letter), (to_dir, to_letter))
+        }
     }
+}
+
+// The rename of a name of one letter to another one.
+fn rename(alloc: Global, from: (u64, u8), to: (u64, u8)) -> Result<Call, NoMemory> {
+    let name = named(alloc, from.1)?;
+    let to_name = named(alloc, to.1)?;
+    Ok(Call::Rename {
+        dir: DirId(from.0),
+        name,
+        to_dir: DirId(to.0),
+        to_name,
+    })
 }
 
 // The row of a call at the name of a directory.
@@ -90,7 +99,7 @@ fn at(verb: Verb, dir: &DirId, name: &Name) -> Made {
 }
 
 /// The row of a call.
-pub fn made_of(call: &Call) -> Made {
+pub(crate) fn made_of(call: &Call) -> Made {
     match call {
         Call::Lookup { dir, name } => at(Verb::Lookup, dir, name),
         Call::List { dir } => Made::List(dir.0),
@@ -120,7 +129,7 @@ fn one_row(alloc: Global) -> Result<Reply, NoMemory> {
 }
 
 /// The reply of a row; rows are one row.
-pub fn reply_of(alloc: Global, told: Told) -> Result<Reply, NoMemory> {
+pub(crate) fn reply_of(alloc: Global, told: Told) -> Result<Reply, NoMemory> {
     Ok(match told {
         Told::Moved => Reply::Moved,
         Told::Kept => Reply::Kept,
@@ -139,7 +148,7 @@ pub fn reply_of(alloc: Global, told: Told) -> Result<Reply, NoMemory> {
 }
 
 /// The row of a reply.
-pub fn told_of(reply: &Reply) -> Told {
+pub(crate) fn told_of(reply: &Reply) -> Told {
     match reply {
         Reply::Moved => Told::Moved,
         Reply::Kept => Told::Kept,

@@ -1,5 +1,6 @@
 //! A path of as many components as a path may have.
 
+use crate::counted::add_line;
 use crate::tables::prints;
 use std::alloc::Global;
 use std::test::Fail;
@@ -21,12 +22,8 @@ fn script(alloc: Global) -> Result<String, Fail> {
 fn add_look_ups(text: &mut String, dirs: &[u64], first: u64) -> Result<u64, Fail> {
     let mut at = first;
     for i in 1..dirs.len() {
-        writeln!(
-            text,
-            "l 1 {at} {at} {at} lookup {} d = node d{}",
-            dirs[i - 1],
-            dirs[i]
-        )?;
+        let numbers = [at, at, at, dirs[i - 1], dirs[i]];
+        add_line(text, "l 1 # # # lookup # d = node d#\n", &numbers)?;
         at = at.saturating_add(1);
     }
     Ok(at)
@@ -44,10 +41,8 @@ fn add_history(text: &mut String, dirs: &mut Vec<u64>) -> Result<(), Fail> {
         let [.., parent] = dirs.as_slice() else {
             return Ok(());
         };
-        writeln!(
-            text,
-            "l 1 {at} {number} {last} mkdir {parent} d = ok {number} d{dir}"
-        )?;
+        let numbers = [at, number, last, *parent, number, dir];
+        add_line(text, "l 1 # # # mkdir # d = ok # d#\n", &numbers)?;
         dirs.push(dir)?;
         at = last.saturating_add(1);
     }
@@ -61,16 +56,14 @@ fn add_tree(text: &mut String, dirs: &[u64]) -> Result<(), Fail> {
     for i in 1..dirs.len() {
         let (parent, dir) = (dirs[i - 1], dirs[i]);
         match dirs.get(i + 1) {
-            Some(child) => writeln!(
-                text,
-                "t {parent} d d{dir} children=1 links=3 time={}",
-                *child / 64
-            )?,
-            None => writeln!(
-                text,
-                "t {parent} d d{dir} children=0 links=2 time={}",
-                dir / 64
-            )?,
+            Some(child) => {
+                let numbers = [parent, dir, *child / 64];
+                add_line(text, "t # d d# children=1 links=3 time=#\n", &numbers)?
+            }
+            None => {
+                let numbers = [parent, dir, dir / 64];
+                add_line(text, "t # d d# children=0 links=2 time=#\n", &numbers)?
+            }
         }
     }
     Ok(())
@@ -81,7 +74,7 @@ fn add_tree(text: &mut String, dirs: &[u64]) -> Result<(), Fail> {
 fn text(alloc: Global) -> Result<String, Fail> {
     let mut text = String::from_str(alloc, "cfs 1\nplaces 1 1\n")?;
     for command in 1..=64u64 {
-        writeln!(text, "c 1 {command} OK")?;
+        add_line(&mut text, "c 1 # OK\n", &[command])?;
     }
     text.push_str("c 1 65 NODE d141184\n")?;
     let mut dirs = Vec::from_slice(alloc, &[0u64])?;

@@ -1,6 +1,7 @@
 //! Many shards and stores, and which of them a node is put in.
-ghost use Rattle.std.specs.Prelude.{◌<◌, ◌≤◌};
+ghost use Rattle.std.specs.Prelude.{◌<◌, ◌≤◌, ◌^◌};
 
+use crate::counted::add_line;
 use crate::tables::prints;
 use std::alloc::Global;
 use std::process::Abort;
@@ -17,15 +18,16 @@ fn has_lines(rt: &impl Abort, text: &str, lines: &[&str]) {
 fn full_script(alloc: Global) -> Result<String, Fail> {
     let mut script = String::from_str(alloc, "places 64 64\n")?;
     for client in 1..=32u64 {
-        writeln!(script, "client {client} create /f{client:02}")?;
-        writeln!(script, "client {client} mkdir /d{client:02}")?;
+        add_line(
+            &mut script,
+            "client # create /f##\nclient # mkdir /d##\n",
+            &[client, client, client, client],
+        )?;
     }
     for _ in 0..7u64 {
-        script.push_str("turns")?;
-        for client in 1..=32u64 {
-            write!(script, " {client}")?;
-        }
-        script.push_str("\n")?;
+        script.push_str(
+            "turns 1 2 3 4 5 6 7 8 9 10 11 12 13 14 15 16 17 18 19 20 21 22 23 24 25 26 27 28 29 30 31 32\n",
+        )?;
     }
     Ok(script)
 }
@@ -41,36 +43,27 @@ fn directory_of(k: u64) -> u64
 fn full_text(alloc: Global) -> Result<String, Fail> {
     let mut text = String::from_str(alloc, "cfs 1\nplaces 64 64\n")?;
     for k in 1..=32u64 {
-        writeln!(text, "c {k} 1 OK\nc {k} 2 OK")?;
+        add_line(&mut text, "c # 1 OK\nc # 2 OK\n", &[k, k])?;
     }
     for k in 1..=32u64 {
-        let (first, at, last) = (k - 1, 31 + k, 63 + k);
-        let file = 64 + k;
-        writeln!(
-            text,
-            "l {k} {first} {at} {last} create 0 f{k:02} = ok 1 f{file}"
-        )?;
+        let numbers = [k, k - 1, 31 + k, 63 + k, k, 64 + k];
+        add_line(&mut text, "l # # # # create 0 f## = ok 1 f#\n", &numbers)?;
     }
     for k in 1..=32u64 {
-        let (first, at, last) = (95 + k, 127 + k, 159 + k);
-        let dir = directory_of(k);
-        writeln!(
-            text,
-            "l {k} {first} {at} {last} mkdir 0 d{k:02} = ok {} d{dir}",
-            k + 3
-        )?;
+        let numbers = [k, 95 + k, 127 + k, 159 + k, k, k + 3, directory_of(k)];
+        add_line(&mut text, "l # # # # mkdir 0 d## = ok # d#\n", &numbers)?;
     }
     text.push_str("t 0 / d0 children=64 links=34 time=35\n")?;
     for k in 1..=32u64 {
-        writeln!(
-            text,
-            "t 0 d{k:02} d{} children=0 links=2 time={}",
-            directory_of(k),
-            k + 3
+        let numbers = [k, directory_of(k), k + 3];
+        add_line(
+            &mut text,
+            "t 0 d## d# children=0 links=2 time=#\n",
+            &numbers,
         )?;
     }
     for k in 1..=32u64 {
-        writeln!(text, "t 0 f{k:02} f{} size=0 time=1", 64 + k)?;
+        add_line(&mut text, "t 0 f## f# size=0 time=1\n", &[k, 64 + k])?;
     }
     text.push_str(
         "s steps=224 calls=64 unfinished=0 busy=0 forgets=0 owed=0 debts=0 marks=0 strays=0\n",
@@ -100,9 +93,12 @@ fn of_32_clients_each_has_its_own_shard_and_store(rt: HostRuntime) -> Result<(),
 // Of 200 puts of client 1, counted from 0, the even ones are files and the odd ones directories.
 fn puts_script(alloc: Global) -> Result<String, Fail> {
     let mut script = String::from_str(alloc, "places 3 2\n")?;
-    for put in 0..200u64 {
-        let call = if put % 2 == 0 { "create" } else { "mkdir" };
-        writeln!(script, "client 1 {call} /n{put:03}")?;
+    for pair in 0..100u64 {
+        add_line(
+            &mut script,
+            "client 1 create /n###\nclient 1 mkdir /n###\n",
+            &[2 * pair, 2 * pair + 1],
+        )?;
     }
     for _ in 0..200u64 {
         script.push_str("turns 1 1 1\n")?;
@@ -111,43 +107,58 @@ fn puts_script(alloc: Global) -> Result<String, Fail> {
     Ok(script)
 }
 
-// The node of a put. The put of this count is the client's step number 3 * put + 1, and goes to the shard or store
-// 1 + put, counted round.
-fn node_of(alloc: Global, put: u64) -> Result<String, Fail>
+// The put of this count is the client's step number 3 * put + 1, and makes a node of this number in the shard or store 0.
+fn node_of(put: u64) -> u64
     requires { put < 200 }
+    ensures { result < 2 ^ 32 }
 {
-    let made = 64 * (3 * put + 1);
-    let node = if put % 2 == 0 {
-        format!(in alloc; "f{}", made + (1 + put) % 2)?
-    } else {
-        format!(in alloc; "d{}", made + (1 + put) % 3)?
-    };
-    Ok(node)
+    64 * (3 * put + 1)
+}
+
+// The lines of a file's put and of the next put, a directory's. A put goes to the store or the shard 1 + put, counted round.
+fn add_pair(text: &mut String, put: u64) -> Result<(), Fail>
+    requires { put < 199 }
+{
+    let file = node_of(put) + (1 + put) % 2;
+    let numbers = [3 * put, 3 * put + 1, 3 * put + 2, put, 3 * put + 1, file];
+    add_line(text, "l 1 # # # create 0 n### = ok # f#\n", &numbers)?;
+    let next = put + 1;
+    let dir = node_of(next) + (1 + next) % 3;
+    let numbers = [
+        3 * next,
+        3 * next + 1,
+        3 * next + 2,
+        next,
+        3 * next + 1,
+        dir,
+    ];
+    add_line(text, "l 1 # # # mkdir 0 n### = ok # d#\n", &numbers)
+}
+
+// The names of these two in the tree.
+fn add_names(text: &mut String, put: u64) -> Result<(), Fail>
+    requires { put < 199 }
+{
+    let file = node_of(put) + (1 + put) % 2;
+    let numbers = [put, file, 3 * put + 1];
+    add_line(text, "t 0 n### f# size=0 time=#\n", &numbers)?;
+    let next = put + 1;
+    let dir = node_of(next) + (1 + next) % 3;
+    let numbers = [next, dir, 3 * next + 1];
+    add_line(text, "t 0 n### d# children=0 links=2 time=#\n", &numbers)
 }
 
 fn puts_text(alloc: Global) -> Result<String, Fail> {
     let mut text = String::from_str(alloc, "cfs 1\nplaces 3 2\n")?;
     for number in 1..=200u64 {
-        writeln!(text, "c 1 {number} OK")?;
+        add_line(&mut text, "c 1 # OK\n", &[number])?;
     }
-    for put in 0..200u64 {
-        let (first, at, last) = (3 * put, 3 * put + 1, 3 * put + 2);
-        let call = if put % 2 == 0 { "create" } else { "mkdir" };
-        let node = node_of(alloc, put)?;
-        writeln!(
-            text,
-            "l 1 {first} {at} {last} {call} 0 n{put:03} = ok {at} {node}"
-        )?;
+    for pair in 0..100u64 {
+        add_pair(&mut text, 2 * pair)?;
     }
     text.push_str("t 0 / d0 children=200 links=102 time=598\n")?;
-    for put in 0..200u64 {
-        let node = node_of(alloc, put)?;
-        let facts = if put % 2 == 0 {
-            "size=0"
-        } else {
-            "children=0 links=2"
-        };
-        writeln!(text, "t 0 n{put:03} {node} {facts} time={}", 3 * put + 1)?;
+    for pair in 0..100u64 {
+        add_names(&mut text, 2 * pair)?;
     }
     text.push_str(
         "s steps=601 calls=200 unfinished=0 busy=0 forgets=0 owed=0 debts=0 marks=0 strays=0\n",
