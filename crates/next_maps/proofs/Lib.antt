@@ -1,0 +1,4 @@
+pub mod Entered
+pub mod Inner
+pub mod Seen
+pub mod Walking

@@ -1,0 +1,12 @@
+//! What a run is given: its places, the commands of each client, and whose turn it is.
+#![tactic(auto)]
+
+mod commands;
+mod lists;
+mod script;
+mod turns;
+
+pub use commands::built;
+pub use lists::CommandLists;
+pub use script::Script;
+pub use turns::TurnList;

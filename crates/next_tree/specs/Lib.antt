@@ -1,0 +1,5 @@
+pub mod Added
+pub mod Codes
+pub mod Made
+pub mod Memory
+pub mod Upward

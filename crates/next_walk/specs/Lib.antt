@@ -1,0 +1,4 @@
+pub mod Commands
+pub mod Paths
+pub mod Stages
+pub mod Walks
