@@ -1,0 +1,4 @@
+pub mod Left
+pub mod Owed
+pub mod Rooms
+pub mod Shown
