@@ -1,0 +1,4 @@
+pub mod Works
+pub mod Stages
+pub mod Visits
+pub mod Collectors

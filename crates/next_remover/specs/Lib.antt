@@ -1,0 +1,2 @@
+pub mod Removers
+pub mod RemoverViews

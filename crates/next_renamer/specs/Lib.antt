@@ -1,0 +1,5 @@
+pub mod Holds
+pub mod Stages
+pub mod Tasks
+pub mod Jobs
+pub mod Renamers
