@@ -1,0 +1,9 @@
+pub mod Lists
+pub mod Stamps
+pub mod Spans
+pub mod Heard
+pub mod Answers
+pub mod Orders
+pub mod Turns
+pub mod Lines
+pub mod Apart
