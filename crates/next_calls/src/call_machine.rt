@@ -2,10 +2,11 @@
 ghost use Rattle.std.specs.Prelude.{◌≡◌, ◌<◌, IsTrue, IfOk, IsOk, None};
 ghost use Rattle.next_steps.specs.Phases.{Asking};
 ghost use Rattle.next_steps.specs.Calls.{begun_of};
+ghost use Rattle.next_writer.specs.Jobs.{job_of};
 ghost use Rattle.next_writer.specs.Writers.{is_writing};
 ghost use Rattle.next_calls.specs.CallMachines.{client_in, index_in, phase_in};
 
-use next_ids::{Call, Client, NoMemory, PlaceNo, Stamp, Ts};
+use next_ids::{Call, Client, JobNo, NoMemory, PlaceNo, Stamp, Ts};
 use next_reader::Reader;
 use next_remover::Remover;
 use next_steps::{Ask, CallDone, Entry, Machine};
@@ -51,6 +52,17 @@ impl CallMachine {
             CallMachine::Reader(reader) => reader.begun(),
             CallMachine::Writer(writer) => writer.begun(),
             CallMachine::Remover(remover) => remover.begun(),
+        }
+    }
+
+    /// The job that the call has submitted and not collected. None comes exactly where there is none. Only a rename goes
+    /// to the Renamer.
+    pub fn job(&self) -> Option<JobNo>
+        ensures { result ≡ job_of (phase_in self.now) }
+    {
+        match self {
+            CallMachine::Writer(writer) => writer.job(),
+            CallMachine::Reader(_) | CallMachine::Remover(_) => None,
         }
     }
 }

@@ -1,13 +1,12 @@
 //! The strays of a place that are still to do.
 ghost use Rattle.std.specs.Prelude.{◌≡◌, IsTrue, IfOk, slice_get, drop};
 ghost use Rattle.next_steps.specs.Asks.{place_of};
-ghost use Rattle.next_steps.specs.JobAsks.{drop_of};
 ghost use Rattle.next_steps.specs.Rounds.{ask_round, next_item, heard_round_as};
 ghost use Rattle.next_collector.specs.Works.{suits, begun, work_after, working};
 
 use crate::work::Work;
 use next_ids::{NoMemory, Node, PlaceNo};
-use next_steps::{Answer, Ask, Stray, StrayList, home_of, shard_of};
+use next_steps::{Answer, Ask, Stray, StrayList, drop_of, home_of, shard_of};
 
 /// The strays of a place, and what is asked next about the one at the index. Those before it are done.
 #[derive(Drop)]
@@ -42,16 +41,6 @@ fn work_after(work: Work, answer: &Answer) -> Option<Work>
         (Work::DebtDropping, _) => Some(Work::DebtClearing),
         (Work::OwnerSettling | Work::OwedDropping | Work::MarkClearing | Work::DebtClearing, _) =>
             None,
-    }
-}
-
-// The ask that drops the record of a node.
-fn drop_of(node: Node) -> Ask
-    ensures { result ≡ drop_of node }
-{
-    match node {
-        Node::File(file) => Ask::Drop { file },
-        Node::Dir(dir) => Ask::DropRec { dir },
     }
 }
 

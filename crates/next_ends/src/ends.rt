@@ -1,10 +1,10 @@
 //! How a call ends.
-ghost use Rattle.std.specs.Prelude.{◌≡◌, ◌+◌, ◌^◌, ◌≤◌, IfOk, OnErr};
+ghost use Rattle.std.specs.Prelude.{◌≡◌, ◌^◌, ◌≤◌};
 ghost use Rattle.next_steps.specs.Phases.{Finished};
 ghost use Rattle.next_steps.specs.Ends.{replied, told, moved, answered};
 ghost use Rattle.next_steps.specs.Readers.{dir_stat};
 
-use next_ids::{At, Call, DirAttr, NoMemory, Node, Reply, Stamp, Ts};
+use next_ids::{At, Call, DirAttr, Node, Reply, Stamp, Ts};
 use next_steps::CallDone;
 
 // The time of a call without a move of its own.
@@ -77,18 +77,14 @@ pub fn answered(call: Call, ts: Ts, first: Stamp, last: Stamp, reply: Reply, at:
     }
 }
 
-/// What a stat of a directory shows: as links 2, and one more for each directory in it (POSIX.1-2017, stat). The Err
-/// comes exactly where the links are 2^64 or more: no memory holds so many directories.
-pub fn dir_stat(attr: DirAttr) -> Result<Reply, NoMemory>
-    ensures ok { IfOk result (λ reply. reply ≡ dir_stat attr) }
-    ensures err { OnErr result (2 ^ 64 ≤ 2 + attr.subdirs) }
+/// What a stat of a directory shows: as links 2, and one more for each directory in it (POSIX.1-2017, stat).
+pub fn dir_stat(attr: DirAttr) -> Reply
+    requires { attr.subdirs ≤ 2 ^ 62 }
+    ensures { result ≡ dir_stat attr }
 {
-    match attr.subdirs.checked_add(2) {
-        Some(links) => Ok(Reply::DirStat {
-            children: attr.children,
-            links,
-            time: attr.time,
-        }),
-        None => Err(NoMemory),
+    Reply::DirStat {
+        children: attr.children,
+        links: attr.subdirs + 2,
+        time: attr.time,
     }
 }

@@ -284,10 +284,16 @@ pub record IsWhole (n : Namespace) : Type 0 where
   pub there : (d : ℕ) (name : List ℕ) (node : Node) → node_at (get n.dirs d) name ≡ Some node → IsThere n node
   -- no list names the root
   pub unnamed : (d : ℕ) (name : List ℕ) (dir : DirId) → node_at (get n.dirs d) name ≡ Some (Dir dir) → dir.0 ≢ 0
-  -- no node has two names
-  pub once : (d e : ℕ) (name other : List ℕ) (node : Node) → node_at (get n.dirs d) name ≡ Some node → node_at (get n.dirs e) other ≡ Some node → (d ≡ e) × (name ≡ other)
+  -- no directory has two names
+  pub once : (d e : ℕ) (name other : List ℕ) (dir : DirId) → node_at (get n.dirs d) name ≡ Some (Dir dir)
+      → node_at (get n.dirs e) other ≡ Some (Dir dir) → (d ≡ e) × (name ≡ other)
   -- each directory is the root or lies below it
   pub below : (d : ℕ) (it : Directory) → get n.dirs d ≡ Some it → is_below n 0 d ≡ true
+
+-- no node, file or directory, has two names
+abbrev pub IsNamedOnce : Namespace → Type 0
+IsNamedOnce n = (d e : ℕ) (name other : List ℕ) (node : Node) → node_at (get n.dirs d) name ≡ Some node
+    → node_at (get n.dirs e) other ≡ Some node → (d ≡ e) × (name ≡ other)
 
 -- ---- nodes without a name
 abbrev pub names_file : ℕ → Node → Bool

@@ -70,5 +70,8 @@ pub passes-name : {X : Type 0} (p : List ℕ × X → Bool) (m : Names X) (name 
 passes-name p m name x is passes = passes-entry (slice_cmp nat_cmp) nat_list_cmp_total (slice_cmp-IsAntisymmetric nat_cmp-IsAntisymmetric) p m name x is passes
 
 -- and among the directories
+pub found-number : {X : Type 0} (p : ℕ × X → Bool) (m : Numbers X) → list_any p (entries m) ≡ true → Found nat_cmp p (entries m)
+found-number p m h = found-entry nat_cmp nat_cmp_total nat_cmp-IsAntisymmetric p m h
+
 pub passes-number : {X : Type 0} (p : ℕ × X → Bool) (m : Numbers X) (k : ℕ) (x : X) → get m k ≡ Some x → p (k, x) ≡ true → list_any p (entries m) ≡ true
 passes-number p m k x is passes = passes-entry nat_cmp nat_cmp_total nat_cmp-IsAntisymmetric p m k x is passes

@@ -7,7 +7,7 @@ use Rattle.next_ids.specs.declared.ids.FileId.{FileId}
 use Rattle.next_ids.specs.declared.ids.Node.{Node}
 use Rattle.next_ids.specs.declared.ids.Node.TheVariants.{Dir, File}
 use Rattle.next_ids.specs.Maps.{Numbers}
-use Rattle.next_ids.specs.Namespace.{Directory, Namespace, node_at, is_below, IsThere, IsWhole}
+use Rattle.next_ids.specs.Namespace.{Directory, Namespace, node_at, is_below, IsThere, IsWhole, IsNamedOnce}
 use Rattle.next_laws_namespace.proofs.Chains.{Lists, Chain, Reaches, chain-last, reach-more, below-reached, reached-below}
 use Rattle.next_laws_namespace.proofs.Slots.{IsSlot, slots, IsDirThere}
 
@@ -21,7 +21,15 @@ pub record Rearranges (dirs dirs' : Numbers Directory) (from : ℕ) (name : List
 abbrev pub IsReplaced : Numbers Directory → (to : ℕ) → (to_name : List ℕ) → ℕ → Type 0
 IsReplaced dirs to to_name d = node_at (get dirs to) to_name ≡ Some (Dir (record { 0 = d }))
 
--- which nodes are there then, that no node gets a second name, that no directory that has names goes, and that none comes to lie below itself
+-- the node that is set has no name but the one that goes
+abbrev pub IsAlone : Namespace → (from : ℕ) (name : List ℕ) → Node → Type 0
+IsAlone n from name it = (d : ℕ) (other : List ℕ) → node_at (get n.dirs d) other ≡ Some it → IsSlot d other from name
+
+-- the namespace is whole, and names each node once where the one before does
+abbrev pub IsKept : (n n' : Namespace) → Type 0
+IsKept n n' = IsWhole n' × (IsNamedOnce n → IsNamedOnce n')
+
+-- which nodes are there then, that no directory gets a second name, that none that has names goes, and that none comes to lie below itself
 pub record Allows (n n' : Namespace) (from : ℕ) (name : List ℕ) (to : ℕ) (to_name : List ℕ) (node : Option Node) : Type 0 where
   pub to_there : IsDirThere n.dirs to
   pub known : (d : ℕ) → IsDirThere n'.dirs d → (IsDirThere n.dirs d × ¬ (IsReplaced n.dirs to to_name d)) ⊎ (node ≡ Some (Dir (record { 0 = d })))
@@ -29,7 +37,8 @@ pub record Allows (n n' : Namespace) (from : ℕ) (name : List ℕ) (to : ℕ) (
   pub files : (f : FileId) → IsThere n (File f) → IsThere n' (File f)
   pub node_there : (it : Node) → node ≡ Some it → IsThere n' it
   pub not_root : (dir : DirId) → node ≡ Some (Dir dir) → dir.0 ≢ 0
-  pub alone : (it : Node) → node ≡ Some it → (d : ℕ) (other : List ℕ) → node_at (get n.dirs d) other ≡ Some it → IsSlot d other from name
+  pub alone : (dir : DirId) → node ≡ Some (Dir dir) → IsAlone n from name (Dir dir)
+  pub alone_too : IsNamedOnce n → (it : Node) → node ≡ Some it → IsAlone n from name it
   pub empty : (dir : DirId) → node_at (get n.dirs to) to_name ≡ Some (Dir dir) → (other : List ℕ) → node_at (get n.dirs dir.0) other ≡ None
   pub moves : (dir : DirId) → ¬ (IsSlot from name to to_name) → node_at (get n.dirs from) name ≡ Some (Dir dir) → (node ≡ Some (Dir dir)) × ¬ (Reaches n.dirs dir.0 to)
 
@@ -105,6 +114,20 @@ module _ (n n' : Namespace) (from : ℕ) (name : List ℕ) (to : ℕ) (to_name :
       by_slot way (inr apart) (inl s) = reach-more n'.dirs 0 to c (reach-to to_way) (to_lists c (may.moves (record { 0 = c }) (otherwise d c h apart s) (at_from d c h s)).0)
       by_slot way (inr apart) (inr other_slot) = reach-more n'.dirs 0 d c way (stays d c h apart other_slot)
 
+  -- a node that had one name has one, if none but that was its own where it is set
+  one-name : (it : Node) → (node ≡ Some it → IsAlone n from name it) → ((d e : ℕ) (one other : List ℕ) → node_at (get n.dirs d) one ≡ Some it → node_at (get n.dirs e) other ≡ Some it → IsSlot d one e other)
+      → (d e : ℕ) (one other : List ℕ) → node_at (get n'.dirs d) one ≡ Some it → node_at (get n'.dirs e) other ≡ Some it → IsSlot d one e other
+  one-name it alone once d e one other first second = by_case (came d one it first) (came e other it second)
+    where
+      by_case : (IsSlot d one to to_name × (node ≡ Some it)) ⊎ Stood d one it → (IsSlot e other to to_name × (node ≡ Some it)) ⊎ Stood e other it → IsSlot d one e other
+      by_case (inl s) (inl t) = (s.0.0 ∙ sym t.0.0, s.0.1 ∙ sym t.0.1)
+      by_case (inl s) (inr h) = absurd (h.1 (alone s.1 e other h.2))
+      by_case (inr h) (inl t) = absurd (h.1 (alone t.1 d one h.2))
+      by_case (inr h) (inr g) = once d e one other h.2 g.2
+
+  once-rearranged : IsNamedOnce n → IsNamedOnce n'
+  once-rearranged once d e one other it = one-name it (may.alone_too once it) (λ a b some another. once a b some another it) d e one other
+
   module _ (whole : IsWhole n) where
     reached : (d : ℕ) → IsDirThere n.dirs d → Reaches n.dirs 0 d
     reached d there = reached-below n 0 d (whole.below d there.0 there.1)
@@ -126,7 +149,7 @@ module _ (n n' : Namespace) (from : ℕ) (name : List ℕ) (to : ℕ) (to_name :
       where
         stood : (it : Node) → Stood d other it → IsThere n' it
         stood (File f) h = may.files f (whole.there d other (File f) h.2)
-        stood (Dir dir) h = may.stay dir.0 (whole.there d other (Dir dir) h.2) (λ replaced. h.0 (whole.once d to other to_name (Dir dir) h.2 replaced))
+        stood (Dir dir) h = may.stay dir.0 (whole.there d other (Dir dir) h.2) (λ replaced. h.0 (whole.once d to other to_name dir h.2 replaced))
 
         by_case : (IsSlot d other to to_name × (node ≡ Some it)) ⊎ Stood d other it → IsThere n' it
         by_case (inl set) = may.node_there it set.1
@@ -139,17 +162,11 @@ module _ (n n' : Namespace) (from : ℕ) (name : List ℕ) (to : ℕ) (to_name :
         by_case (inl set) = may.not_root dir set.1
         by_case (inr h) = whole.unnamed d other dir h.2
 
-    once' : (d e : ℕ) (one other : List ℕ) (it : Node) → node_at (get n'.dirs d) one ≡ Some it → node_at (get n'.dirs e) other ≡ Some it → IsSlot d one e other
-    once' d e one other it first second = by_case (came d one it first) (came e other it second)
-      where
-        by_case : (IsSlot d one to to_name × (node ≡ Some it)) ⊎ Stood d one it → (IsSlot e other to to_name × (node ≡ Some it)) ⊎ Stood e other it → IsSlot d one e other
-        by_case (inl s) (inl t) = (s.0.0 ∙ sym t.0.0, s.0.1 ∙ sym t.0.1)
-        by_case (inl s) (inr h) = absurd (h.1 (may.alone it s.1 e other h.2))
-        by_case (inr h) (inl t) = absurd (h.1 (may.alone it t.1 d one h.2))
-        by_case (inr h) (inr g) = whole.once d e one other it h.2 g.2
-
     root' : IsDirThere n'.dirs 0
     root' = may.stay 0 whole.root (λ replaced. whole.unnamed to to_name (record { 0 = 0 }) replaced refl)
 
-    pub whole-rearranged : IsWhole n'
-    whole-rearranged = record { root = root'; there = there'; unnamed = unnamed'; once = once'; below = below' }
+    once' : (d e : ℕ) (one other : List ℕ) (dir : DirId) → node_at (get n'.dirs d) one ≡ Some (Dir dir) → node_at (get n'.dirs e) other ≡ Some (Dir dir) → IsSlot d one e other
+    once' d e one other dir = one-name (Dir dir) (may.alone dir) (λ a b some another. whole.once a b some another dir) d e one other
+
+    pub kept-rearranged : IsKept n n'
+    kept-rearranged = (record { root = root'; there = there'; unnamed = unnamed'; once = once'; below = below' }, once-rearranged)

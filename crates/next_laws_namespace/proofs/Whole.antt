@@ -13,13 +13,14 @@ use Rattle.next_ids.specs.declared.call.Call.{Call}
 use Rattle.next_ids.specs.declared.call.Call.TheVariants.{Create, Mkdir, Unlink, Rmdir, Truncate, Rename}
 use Rattle.next_ids.specs.declared.time.Ts.{Ts}
 use Rattle.next_ids.specs.Times.{start}
-use Rattle.next_ids.specs.Namespace.{Directory, Namespace, node_at, names_file, is_listed, forget, empty_root, after, IsDefined, IsThere, IsWhole}
+use Rattle.next_ids.specs.Namespace.{Directory, Namespace, node_at, names_file, is_listed, forget, empty_root, after, IsDefined, IsThere, IsWhole, IsNamedOnce}
 use Rattle.next_ids.proofs.MapLemmas.{get-insert_here}
 use Rattle.next_laws_namespace.proofs.Found.{passes-name, passes-number}
 use Rattle.next_laws_namespace.proofs.Chains.{below-reached, reached-below}
+use Rattle.next_laws_namespace.proofs.Rearranged.{IsKept}
 use Rattle.next_laws_namespace.proofs.Slots.{get-insert_apart, get-remove_apart}
-use Rattle.next_laws_namespace.proofs.WholeMoves.{free-there, free-for-dir, whole-created, whole-made_dir, a-file, whole-unlinked, an-empty, whole-removed, whole-truncated}
-use Rattle.next_laws_namespace.proofs.WholeRenames.{whole-renamed}
+use Rattle.next_laws_namespace.proofs.WholeMoves.{free-there, free-for-dir, kept-created, kept-made_dir, a-file, kept-unlinked, an-empty, kept-removed, kept-truncated}
+use Rattle.next_laws_namespace.proofs.WholeRenames.{kept-renamed}
 
 -- ---- the empty root
 root-names : (d : ℕ) (name : List ℕ) → node_at (get empty_root.dirs d) name ≡ None
@@ -48,19 +49,22 @@ empty_root-whole = record {
   root = (record { names = empty; time = start }, get-insert_here empty 0 (record { names = empty; time = start }));
   there = λ d name node is. absurd (let none = root-names d name in cc);
   unnamed = λ d name dir is. absurd (let none = root-names d name in cc);
-  once = λ d e name other node is it. absurd (let none = root-names d name in cc);
+  once = λ d e name other dir is it. absurd (let none = root-names d name in cc);
   below = λ d it is. below-reached empty_root 0 d (0, sym (root-alone d it is));
 }
 
+pub empty_root-once : IsNamedOnce empty_root
+empty_root-once d e name other node is it = absurd (let none = root-names d name in cc)
+
 -- ---- a call that moves
-pub whole-after : (n : Namespace) (call : Call) (made : Option Node) (ts : Ts) → IsDefined n call made → IsWhole n → IsWhole (after n call made ts)
-whole-after n (Create dir name) (Some (File file)) ts h whole = let it = free-there (get n.dirs dir.0) name h.0 in whole-created n dir name file ts it.0 it.1 h.1 whole
-whole-after n (Mkdir dir name) (Some (Dir child)) ts h whole = let it = free-for-dir (get n.dirs dir.0) name h.0 in whole-made_dir n dir name child ts it.0 it.1 h.1 whole
-whole-after n (Unlink dir name) None ts h whole = let it = a-file (node_at (get n.dirs dir.0) name) h in whole-unlinked n dir name ts it.0 it.1 whole
-whole-after n (Rmdir dir name) None ts h whole = let it = an-empty n (node_at (get n.dirs dir.0) name) h in whole-removed n dir name ts it.0 it.1 it.2 whole
-whole-after n (Truncate file size) None ts h whole = whole-truncated n file size ts whole
-whole-after n (Rename dir name to_dir to_name) None ts h whole = whole-renamed n dir name to_dir to_name ts h whole
-whole-after n _ _ ts h whole = absurd h
+pub kept-after : (n : Namespace) (call : Call) (made : Option Node) (ts : Ts) → IsDefined n call made → IsWhole n → IsKept n (after n call made ts)
+kept-after n (Create dir name) (Some (File file)) ts h whole = let it = free-there (get n.dirs dir.0) name h.0 in kept-created n dir name file ts it.0 it.1 h.1 whole
+kept-after n (Mkdir dir name) (Some (Dir child)) ts h whole = let it = free-for-dir (get n.dirs dir.0) name h.0 in kept-made_dir n dir name child ts it.0 it.1 h.1 whole
+kept-after n (Unlink dir name) None ts h whole = let it = a-file (node_at (get n.dirs dir.0) name) h in kept-unlinked n dir name ts it.0 it.1 whole
+kept-after n (Rmdir dir name) None ts h whole = let it = an-empty n (node_at (get n.dirs dir.0) name) h in kept-removed n dir name ts it.0 it.1 it.2 whole
+kept-after n (Truncate file size) None ts h whole = kept-truncated n file size ts whole
+kept-after n (Rename dir name to_dir to_name) None ts h whole = kept-renamed n dir name to_dir to_name ts h whole
+kept-after n _ _ ts h whole = absurd h
 
 -- ---- a file that is forgotten
 listed : (n : Namespace) (d : ℕ) (name : List ℕ) (f : FileId) → node_at (get n.dirs d) name ≡ Some (File f) → is_listed n f.0 ≡ true
@@ -72,14 +76,17 @@ listed n d name f is = by_dir (get n.dirs d) refl is
         passes-number (λ (x : ℕ × Directory). list_any (λ e. names_file f.0 e.1) (entries x.1.names)) n.dirs d it at
         (passes-name (λ (e : List ℕ × Node). names_file f.0 e.1) it.names name (File f) is (grind (arith, nat_tests)))
 
-pub whole-forgotten : (n : Namespace) (f : ℕ) → is_listed n f ≡ false → IsWhole n → IsWhole (forget n f)
-whole-forgotten n f free whole = record {
-  root = whole.root;
-  there = there';
-  unnamed = whole.unnamed;
-  once = whole.once;
-  below = λ d it is. below-reached (forget n f) 0 d (reached-below n 0 d (whole.below d it is));
-}
+pub kept-forgotten : (n : Namespace) (f : ℕ) → is_listed n f ≡ false → IsWhole n → IsKept n (forget n f)
+kept-forgotten n f free whole = (
+  record {
+    root = whole.root;
+    there = there';
+    unnamed = whole.unnamed;
+    once = whole.once;
+    below = λ d it is. below-reached (forget n f) 0 d (reached-below n 0 d (whole.below d it is));
+  },
+  λ once. once,
+)
   where
     there' : (d : ℕ) (name : List ℕ) (node : Node) → node_at (get n.dirs d) name ≡ Some node → IsThere (forget n f) node
     there' d name (Dir dir) is = whole.there d name (Dir dir) is

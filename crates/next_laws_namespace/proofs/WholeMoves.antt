@@ -1,4 +1,4 @@
--- Each call that moves keeps a namespace whole.
+-- Each call that moves keeps a namespace whole, and gives no node a second name.
 use Rattle.std.proofs.Common.{◌≡◌, ◌≢◌, ◌⊎◌, inl, inr, ℕ, List, Bool, true, false, cond, refl, sym, ◌∙◌, ap, subst, arith}
 use Rattle.std.specs.Prelude.{◌==◌, Option, Some, None}
 use Rattle.std.proofs.lemmas.Bool.Decides.{nat_tests}
@@ -17,7 +17,7 @@ use Rattle.next_ids.specs.Namespace.{Directory, FileFacts, Namespace, node_at, i
 use Rattle.next_ids.proofs.MapLemmas.{get-insert_here}
 use Rattle.next_laws_namespace.proofs.Chains.{below-reached, reached-below}
 use Rattle.next_laws_namespace.proofs.Slots.{IsSlot, slots, IsDirThere, listing-there, get-insert_apart, get-remove_apart, get-remove_at, set-here, set-other, set-elsewhere, cut-here, cut-other, removed-empty, there-insert, there-before}
-use Rattle.next_laws_namespace.proofs.Rearranged.{Rearranges, Allows, IsReplaced, whole-rearranged}
+use Rattle.next_laws_namespace.proofs.Rearranged.{Rearranges, Allows, IsReplaced, IsKept, kept-rearranged}
 
 -- ---- what sets, cuts and moves rearrange
 pub set-rearranges : (dirs : Numbers Directory) (dir : DirId) (name : List ℕ) (node : Node) (ts : Ts) → Rearranges dirs (name_set dirs dir name node ts) dir.0 name dir.0 name (Some node)
@@ -122,8 +122,8 @@ file-there-insert files f facts g h = by_test (g == f) refl
     by_test true at = let same : g ≡ f = grind (arith, nat_tests) in (facts, ap (get (insert files f facts)) same ∙ get-insert_here files f facts)
     by_test false at = let apart : g ≢ f = grind (arith, nat_tests) in (h.0, get-insert_apart files f g facts apart ∙ h.1)
 
-pub whole-created : (n : Namespace) (dir : DirId) (name : List ℕ) (file : FileId) (ts : Ts) → IsDirThere n.dirs dir.0 → node_at (get n.dirs dir.0) name ≡ None → get n.files file.0 ≡ None → IsWhole n → IsWhole (created n dir name file ts)
-whole-created n dir name file ts it none new whole = whole-rearranged n (created n dir name file ts) dir.0 name dir.0 name (Some (File file)) (set-rearranges n.dirs dir name (File file) ts) may whole
+pub kept-created : (n : Namespace) (dir : DirId) (name : List ℕ) (file : FileId) (ts : Ts) → IsDirThere n.dirs dir.0 → node_at (get n.dirs dir.0) name ≡ None → get n.files file.0 ≡ None → IsWhole n → IsKept n (created n dir name file ts)
+kept-created n dir name file ts it none new whole = kept-rearranged n (created n dir name file ts) dir.0 name dir.0 name (Some (File file)) (set-rearranges n.dirs dir name (File file) ts) may whole
   where
     new_file : (node : Node) → ◌≡◌ {A = Option Node} (Some (File file)) (Some node) → IsThere (created n dir name file ts) node
     new_file (File f) is = let same : file ≡ f = cc in subst (λ (x : FileId). IsThere (created n dir name file ts) (File x)) same (record { size = 0; time = ts }, get-insert_here n.files file.0 (record { size = 0; time = ts }))
@@ -142,14 +142,15 @@ whole-created n dir name file ts it none new whole = whole-rearranged n (created
       files = λ f h. file-there-insert n.files file.0 _ f.0 h;
       node_there = new_file;
       not_root = λ d is. cc;
-      alone = λ node is e other found. absurd (nowhere node is (whole.there e other node found));
+      alone = λ d is e other found. absurd (nowhere (Dir d) is (whole.there e other (Dir d) found));
+      alone_too = λ once node is e other found. absurd (nowhere node is (whole.there e other node found));
       empty = λ d is other. cc;
       moves = λ d apart is. absurd (apart (refl, refl));
     }
 
 -- ---- mkdir
-pub whole-made_dir : (n : Namespace) (dir : DirId) (name : List ℕ) (child : DirId) (ts : Ts) → IsDirThere n.dirs dir.0 → node_at (get n.dirs dir.0) name ≡ None → get n.dirs child.0 ≡ None → IsWhole n → IsWhole (made_dir n dir name child ts)
-whole-made_dir n dir name child ts it none new whole = whole-rearranged n (made_dir n dir name child ts) dir.0 name dir.0 name (Some (Dir child)) re may whole
+pub kept-made_dir : (n : Namespace) (dir : DirId) (name : List ℕ) (child : DirId) (ts : Ts) → IsDirThere n.dirs dir.0 → node_at (get n.dirs dir.0) name ≡ None → get n.dirs child.0 ≡ None → IsWhole n → IsKept n (made_dir n dir name child ts)
+kept-made_dir n dir name child ts it none new whole = kept-rearranged n (made_dir n dir name child ts) dir.0 name dir.0 name (Some (Dir child)) re may whole
   where
     apart : child.0 ≢ dir.0
     apart = λ same. let there = it.1 in let absent : get n.dirs dir.0 ≡ None = ap (get n.dirs) (sym same) ∙ new in cc
@@ -198,7 +199,8 @@ whole-made_dir n dir name child ts it none new whole = whole-rearranged n (made_
       files = λ f h. h;
       node_there = new_dir;
       not_root = λ d is zero_is. let absent = is_child d is in let there = whole.root.1 in let root : get n.dirs 0 ≡ None = ap (get n.dirs) (sym zero_is) ∙ absent in cc;
-      alone = λ node is e other found. absurd (nowhere node is (whole.there e other node found));
+      alone = λ d is e other found. absurd (nowhere (Dir d) is (whole.there e other (Dir d) found));
+      alone_too = λ once node is e other found. absurd (nowhere node is (whole.there e other node found));
       empty = λ d is other. cc;
       moves = λ d slot is. absurd (slot (refl, refl));
     }
@@ -209,8 +211,8 @@ a-file None h = cc
 a-file (Some (Dir dir)) h = cc
 a-file (Some (File file)) h = (file, refl)
 
-pub whole-unlinked : (n : Namespace) (dir : DirId) (name : List ℕ) (ts : Ts) (file : FileId) → node_at (get n.dirs dir.0) name ≡ Some (File file) → IsWhole n → IsWhole (unlinked_in n dir name ts)
-whole-unlinked n dir name ts file is whole = whole-rearranged n (unlinked_in n dir name ts) dir.0 name dir.0 name None (cut-rearranges n.dirs dir name ts) may whole
+pub kept-unlinked : (n : Namespace) (dir : DirId) (name : List ℕ) (ts : Ts) (file : FileId) → node_at (get n.dirs dir.0) name ≡ Some (File file) → IsWhole n → IsKept n (unlinked_in n dir name ts)
+kept-unlinked n dir name ts file is whole = kept-rearranged n (unlinked_in n dir name ts) dir.0 name dir.0 name None (cut-rearranges n.dirs dir name ts) may whole
   where
     may : Allows n (unlinked_in n dir name ts) dir.0 name dir.0 name None
     may = let it = listing-there (get n.dirs dir.0) name (File file) is in record {
@@ -220,7 +222,8 @@ whole-unlinked n dir name ts file is whole = whole-rearranged n (unlinked_in n d
       files = λ f h. h;
       node_there = λ node none. cc;
       not_root = λ d none. cc;
-      alone = λ node none e other found. cc;
+      alone = λ d none e other found. cc;
+      alone_too = λ once node none e other found. cc;
       empty = λ d replaced other. cc;
       moves = λ d slot replaced. absurd (slot (refl, refl));
     }
@@ -235,9 +238,9 @@ an-empty n (Some (Dir child)) h = (child, refl, by_test (is_empty (get n.dirs ch
     by_test true h = refl
     by_test false h = cc
 
-pub whole-removed : (n : Namespace) (dir : DirId) (name : List ℕ) (ts : Ts) (child : DirId) → node_at (get n.dirs dir.0) name ≡ Some (Dir child) → is_empty (get n.dirs child.0) ≡ true → IsWhole n → IsWhole (removed_in n dir name ts)
-whole-removed n dir name ts child is none whole =
-    whole-rearranged n (removed_in n dir name ts) dir.0 name dir.0 name None (without-rearranges n.dirs (name_cut n.dirs dir name ts) dir.0 name dir.0 name None (cut-rearranges n.dirs dir name ts) _ refl gone) may whole
+pub kept-removed : (n : Namespace) (dir : DirId) (name : List ℕ) (ts : Ts) (child : DirId) → node_at (get n.dirs dir.0) name ≡ Some (Dir child) → is_empty (get n.dirs child.0) ≡ true → IsWhole n → IsKept n (removed_in n dir name ts)
+kept-removed n dir name ts child is none whole =
+    kept-rearranged n (removed_in n dir name ts) dir.0 name dir.0 name None (without-rearranges n.dirs (name_cut n.dirs dir name ts) dir.0 name dir.0 name None (cut-rearranges n.dirs dir name ts) _ refl gone) may whole
   where
     gone : (d : DirId) → node_at (get n.dirs dir.0) name ≡ Some (Dir d) → (other : List ℕ) → node_at (get n.dirs d.0) other ≡ None
     gone d found other = let same : child ≡ d = cc in subst (λ (x : DirId). node_at (get n.dirs x.0) other ≡ None) same (no-names (get n.dirs child.0) none other)
@@ -250,14 +253,15 @@ whole-removed n dir name ts child is none whole =
       files = λ f h. h;
       node_there = λ node no. cc;
       not_root = λ d no. cc;
-      alone = λ node no e other found. cc;
+      alone = λ d no e other found. cc;
+      alone_too = λ once node no e other found. cc;
       empty = gone;
       moves = λ d slot found. absurd (slot (refl, refl));
     }
 
 -- ---- truncate
-pub whole-truncated : (n : Namespace) (file : FileId) (size : ℕ) (ts : Ts) → IsWhole n → IsWhole (truncated n file size ts)
-whole-truncated n file size ts whole = record { root = whole.root; there = there'; unnamed = whole.unnamed; once = whole.once; below = λ d it is. below-reached (truncated n file size ts) 0 d (reached-below n 0 d (whole.below d it is)) }
+pub kept-truncated : (n : Namespace) (file : FileId) (size : ℕ) (ts : Ts) → IsWhole n → IsKept n (truncated n file size ts)
+kept-truncated n file size ts whole = (record { root = whole.root; there = there'; unnamed = whole.unnamed; once = whole.once; below = λ d it is. below-reached (truncated n file size ts) 0 d (reached-below n 0 d (whole.below d it is)) }, λ once. once)
   where
     stays : (node : Node) → IsThere n node → IsThere (truncated n file size ts) node
     stays (Dir dir) h = h

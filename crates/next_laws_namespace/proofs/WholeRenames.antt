@@ -1,4 +1,4 @@
--- A rename that moves keeps a namespace whole.
+-- A rename that moves keeps a namespace whole, and gives no node a second name.
 use Rattle.std.proofs.Common.{◌≡◌, inl, ℕ, List, Bool, true, false, cond, refl, sym, ◌∙◌, ap, subst, arith}
 use Rattle.std.specs.Prelude.{◌==◌, ◌&&◌, not, Option, Some, None}
 use Rattle.std.specs.Str.{bytes_eq}
@@ -15,7 +15,7 @@ use Rattle.next_ids.specs.Maps.{Numbers}
 use Rattle.next_ids.specs.Namespace.{Directory, Namespace, node_at, is_empty, is_full, is_below, is_one_name, moves_out, onto, onto_name, renamed, name_set, name_cut, set_moved, without_dir, renamed_in, IsThere, IsWhole}
 use Rattle.next_laws_namespace.proofs.Chains.{Reaches, below-reached}
 use Rattle.next_laws_namespace.proofs.Slots.{IsSlot, IsDirThere, listing-there, there-insert, there-before}
-use Rattle.next_laws_namespace.proofs.Rearranged.{Allows, IsReplaced, whole-rearranged}
+use Rattle.next_laws_namespace.proofs.Rearranged.{Allows, IsReplaced, IsKept, kept-rearranged}
 use Rattle.next_laws_namespace.proofs.WholeMoves.{move-rearranges, without-rearranges, known-without, stay-without, no-names}
 
 -- what a rename that moves has found
@@ -119,7 +119,7 @@ module _ (n : Namespace) (dir : DirId) (name : List ℕ) (to_dir : DirId) (to_na
 
   node_there : (it : Node) → Some node ≡ Some it → IsThere (moved_in n dir name to_dir to_name node ts) it
   node_there (File f) same = whole.there dir.0 name (File f) (is ∙ same)
-  node_there (Dir d) same = stay d.0 (whole.there dir.0 name (Dir d) (is ∙ same)) (λ replaced. apart (whole.once dir.0 to_dir.0 name to_name (Dir d) (is ∙ same) replaced))
+  node_there (Dir d) same = stay d.0 (whole.there dir.0 name (Dir d) (is ∙ same)) (λ replaced. apart (whole.once dir.0 to_dir.0 name to_name d (is ∙ same) replaced))
 
   moves : (d : DirId) → ¬ (IsSlot dir.0 name to_dir.0 to_name) → node_at (get n.dirs dir.0) name ≡ Some (Dir d) → (Some node ≡ Some (Dir d)) × ¬ (Reaches n.dirs d.0 to_dir.0)
   moves d slot found = (
@@ -139,17 +139,18 @@ module _ (n : Namespace) (dir : DirId) (name : List ℕ) (to_dir : DirId) (to_na
     files = λ f h. h;
     node_there = node_there;
     not_root = λ d same. whole.unnamed dir.0 name d (is ∙ same);
-    alone = λ it same e other found. whole.once e dir.0 other name it found (is ∙ same);
+    alone = λ d same e other found. whole.once e dir.0 other name d found (is ∙ same);
+    alone_too = λ once it same e other found. once e dir.0 other name it found (is ∙ same);
     empty = gone;
     moves = moves;
   }
 
-  pub whole-moved : IsWhole (moved_in n dir name to_dir to_name node ts)
-  whole-moved = whole-rearranged n (moved_in n dir name to_dir to_name node ts) dir.0 name to_dir.0 to_name (Some node)
+  pub kept-moved : IsKept n (moved_in n dir name to_dir to_name node ts)
+  kept-moved = kept-rearranged n (moved_in n dir name to_dir to_name node ts) dir.0 name to_dir.0 to_name (Some node)
       (without-rearranges n.dirs Set dir.0 name to_dir.0 to_name (Some node) (move-rearranges n.dirs dir name to_dir to_name node ts) (node_at (get n.dirs to_dir.0) to_name) refl gone) allows whole
 
-pub whole-renamed : (n : Namespace) (dir : DirId) (name : List ℕ) (to_dir : DirId) (to_name : List ℕ) (ts : Ts) → renamed n dir name to_dir to_name (node_at (get n.dirs dir.0) name) ≡ Moved → IsWhole n → IsWhole (renamed_in n dir name to_dir to_name ts)
-whole-renamed n dir name to_dir to_name ts h whole =
+pub kept-renamed : (n : Namespace) (dir : DirId) (name : List ℕ) (to_dir : DirId) (to_name : List ℕ) (ts : Ts) → renamed n dir name to_dir to_name (node_at (get n.dirs dir.0) name) ≡ Moved → IsWhole n → IsKept n (renamed_in n dir name to_dir to_name ts)
+kept-renamed n dir name to_dir to_name ts h whole =
     let r = renames-moved n dir name to_dir to_name h in
-    let moved = whole-moved n dir name to_dir to_name ts r.node r.is (names-apart dir name to_dir to_name r.apart) r.to_there r.full r.may whole in
-    subst (λ (o : Option Node). IsWhole (record { dirs = without_dir (set_moved (name_cut n.dirs dir name ts) to_dir to_name ts o) (node_at (get n.dirs to_dir.0) to_name); files = n.files })) (sym r.is) moved
+    let moved = kept-moved n dir name to_dir to_name ts r.node r.is (names-apart dir name to_dir to_name r.apart) r.to_there r.full r.may whole in
+    subst (λ (o : Option Node). IsKept n (record { dirs = without_dir (set_moved (name_cut n.dirs dir name ts) to_dir to_name ts o) (node_at (get n.dirs to_dir.0) to_name); files = n.files })) (sym r.is) moved

@@ -2,6 +2,9 @@
 use Rattle.std.specs.Prelude.{Bool, true, false}
 use Rattle.next_ids.specs.declared.call.Call.{Call}
 use Rattle.next_ids.specs.declared.call.Call.TheVariants as call
+use Rattle.next_steps.specs.declared.answer.Answer.{Answer}
+use Rattle.next_steps.specs.declared.answer.Answer.TheVariants.{Attr}
+use Rattle.next_steps.specs.Answers.{are_counts}
 use Rattle.next_steps.specs.Phases.{Phase, Asking as AskingPhase, Reads, Finished as FinishedPhase}
 use Rattle.next_steps.specs.Phases as phase
 use Rattle.next_reader.specs.declared.state.Reading.{Reading}
@@ -33,3 +36,8 @@ phase_of (StatGetting f) = Reads (phase.StatGetting f.stat.dir f.stat.name f.fil
 phase_of (StatChecking f found got) =
     Reads (phase.StatChecking f.stat.dir f.stat.name f.file f.row found got f.stat.first)
 phase_of (Finished done) = FinishedPhase done
+
+-- counts in an answer come out of a fold
+abbrev pub has_counts : Answer → Bool
+has_counts (Attr attr) = are_counts attr
+has_counts answer = true

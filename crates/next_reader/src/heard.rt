@@ -5,7 +5,7 @@ ghost use Rattle.next_ids.specs.declared.call.Call.TheVariants.{Stat as StatCall
 ghost use Rattle.next_steps.specs.Calls.{heard_first, heard_as, is_going};
 ghost use Rattle.next_steps.specs.Ends.{told};
 ghost use Rattle.next_steps.specs.Readers.{heard_lookup, heard_list, heard_root, heard_row, heard_look, heard_get, heard_check};
-ghost use Rattle.next_reader.specs.Readers.{phase_of, call_of};
+ghost use Rattle.next_reader.specs.Readers.{phase_of, call_of, has_counts};
 
 use crate::state::{FileStat, ReaderState, Reading, Stat};
 use next_ends::{dir_stat, is_stamp, replied, told};
@@ -44,15 +44,16 @@ fn after_list(dir: DirId, step: Stamp, answer: &Answer) -> Result<ReaderState, N
 }
 
 // A stat of the root after a step.
-fn after_root(first: Stamp, step: Stamp, answer: &Answer) -> Result<ReaderState, NoMemory>
-    ensures { IfOk result (λ state. phase_of state ≡ heard_root first step answer.now) }
+fn after_root(first: Stamp, step: Stamp, answer: &Answer) -> ReaderState
+    requires { IsTrue (has_counts answer.now) }
+    ensures { phase_of result ≡ heard_root first step answer.now }
 {
     let reply = match answer {
-        Answer::Attr(attr) => dir_stat(*attr)?,
+        Answer::Attr(attr) => dir_stat(*attr),
         Answer::Locked(job) => Reply::Busy(*job),
-        _ => return Ok(ReaderState::RootLooking { first }),
+        _ => return ReaderState::RootLooking { first },
     };
-    Ok(ReaderState::Finished(told(Call::StatRoot, first, step, reply)))
+    ReaderState::Finished(told(Call::StatRoot, first, step, reply))
 }
 
 impl Stat {
@@ -92,10 +93,11 @@ fn after_look(
     step: Stamp,
     answer: &Answer,
 ) -> Result<ReaderState, NoMemory>
+    requires { IsTrue (has_counts answer.now) }
     ensures { IfOk result (λ state. phase_of state ≡ heard_look stat.dir stat.name child stat.first step answer.now) }
 {
     match answer {
-        Answer::Attr(attr) => Ok(stat.told(step, dir_stat(*attr)?)),
+        Answer::Attr(attr) => Ok(stat.told(step, dir_stat(*attr))),
         Answer::Locked(job) => Ok(stat.told(step, Reply::Busy(*job))),
         Answer::NoDir | Answer::Moved => Ok(ReaderState::StatReading(stat)),
         Answer::Leaving(note) => Ok(ReaderState::StatHelping {
@@ -153,12 +155,13 @@ fn after_check(
 
 // A call after its first step.
 fn after_first(reading: &Reading, step: Stamp, answer: &Answer) -> Result<ReaderState, NoMemory>
+    requires { IsTrue (has_counts answer.now) }
     ensures { IfOk result (λ state. (ts : Ts) → phase_of state ≡ heard_first (call_of reading.now) step ts answer.now) }
 {
     match reading {
         Reading::Lookup { dir, name } => Ok(after_lookup(*dir, name.copy()?, step, answer)),
         Reading::List { dir } => after_list(*dir, step, answer),
-        Reading::StatRoot => after_root(step, step, answer),
+        Reading::StatRoot => Ok(after_root(step, step, answer)),
         Reading::Stat { dir, name } => {
             let stat = Stat {
                 dir: *dir,
@@ -172,7 +175,8 @@ fn after_first(reading: &Reading, step: Stamp, answer: &Answer) -> Result<Reader
 
 /// The state after a step.
 pub fn after(state: &ReaderState, step: Stamp, answer: &Answer) -> Result<ReaderState, NoMemory>
-    requires { IsTrue (is_going (phase_of state.now)) }
+    requires going { IsTrue (is_going (phase_of state.now)) }
+    requires counts { IsTrue (has_counts answer.now) }
     ensures { IfOk result (λ after. (ts : Ts) → phase_of after ≡ heard_as (phase_of state.now) step ts answer.now) }
 {
     match state {
@@ -184,7 +188,7 @@ pub fn after(state: &ReaderState, step: Stamp, answer: &Answer) -> Result<Reader
             step,
             Reply::Refused(Errno::Enoent),
         ))),
-        ReaderState::RootLooking { first } => after_root(*first, step, answer),
+        ReaderState::RootLooking { first } => Ok(after_root(*first, step, answer)),
         ReaderState::StatReading(stat) => Ok(after_row(stat.copy()?, step, answer)),
         ReaderState::StatLooking { stat, child } => after_look(stat.copy()?, *child, step, answer),
         ReaderState::StatHelping { stat, .. } => Ok(ReaderState::StatReading(stat.copy()?)),

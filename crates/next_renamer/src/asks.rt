@@ -1,7 +1,7 @@
 //! What a job asks, and where.
 ghost use Rattle.std.specs.Prelude.{◌≡◌, IfOk};
 ghost use Rattle.next_steps.specs.Asks.{place_of};
-ghost use Rattle.next_steps.specs.JobAsks.{drop_of, release_of, ask_job};
+ghost use Rattle.next_steps.specs.JobAsks.{release_of, ask_job};
 ghost use Rattle.next_renamer.specs.Holds.{hold_of};
 ghost use Rattle.next_renamer.specs.Stages.{phase_at};
 ghost use Rattle.next_renamer.specs.Tasks.{task_of};
@@ -10,7 +10,7 @@ use crate::hold::Hold;
 use crate::stage::Stage;
 use crate::task::Task;
 use next_ids::{FileId, NoMemory, Node, PlaceNo};
-use next_steps::{Ask, home_of, shard_of};
+use next_steps::{Ask, drop_of, home_of, shard_of};
 
 // The ask that settles a file.
 fn settle(file: FileId) -> Ask
@@ -18,16 +18,6 @@ fn settle(file: FileId) -> Ask
 {
     Ask::Settle {
         node: Node::File(file),
-    }
-}
-
-// The ask that drops the record of a node.
-fn drop_of(node: Node) -> Ask
-    ensures { result ≡ drop_of node }
-{
-    match node {
-        Node::File(file) => Ask::Drop { file },
-        Node::Dir(dir) => Ask::DropRec { dir },
     }
 }
 

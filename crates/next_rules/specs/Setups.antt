@@ -1,5 +1,5 @@
 -- What is known of a setup: its counts, and that clients call on what they were told of.
-use Rattle.std.specs.Prelude.{◌≡◌, ℕ, ◌≤◌, List, [], ◌∷◌, Bool, true}
+use Rattle.std.specs.Prelude.{◌≡◌, ℕ, ◌+◌, ◌≤◌, nat_le, nat_lt, ◌==◌, ◌||◌, ◌&&◌, List, [], ◌∷◌, Bool, true}
 use Rattle.std.specs.List.{list_any, list_all}
 use Rattle.next_ids.specs.declared.ids.Node.{Node}
 use Rattle.next_ids.specs.declared.ids.Node.TheVariants.{Dir, File}
@@ -49,6 +49,11 @@ IsCount n = (1 ≤ n) × (n ≤ 64)
 pub record AreCounts (counts : Counts) : Type 0 where
   pub shards : IsCount counts.shards
   pub stores : IsCount counts.stores
+
+-- the service has a place with this number: its shards from 0 on, its stores from 64 on, the desk and the roster
+abbrev pub has_place : Counts → ℕ → Bool
+has_place counts n =
+    nat_lt n counts.shards || ((nat_le 64 n && nat_lt n (64 + counts.stores)) || ((n == 128) || (n == 129)))
 
 -- and each client begins with the root alone
 pub record IsSetup (setup : Setup) : Type 0 where

@@ -1,6 +1,7 @@
 -- The answers that the tables list for an ask.
-use Rattle.std.specs.Prelude.{Bool, true, false, Some, None}
+use Rattle.std.specs.Prelude.{◌^◌, Bool, true, false, ◌&&◌, nat_le, Some, None}
 use Rattle.next_ids.specs.declared.ids.Node.TheVariants.{Dir, File}
+use Rattle.next_ids.specs.declared.attributes.DirAttr.{DirAttr}
 use Rattle.next_steps.specs.declared.ask.Ask.{Ask}
 use Rattle.next_steps.specs.declared.ask.Ask.TheVariants as ask
 use Rattle.next_steps.specs.declared.answer.Answer.{Answer}
@@ -11,6 +12,10 @@ abbrev pub changes : Answer → Bool
 changes (answer.Done None) = true
 changes answer.None = true
 changes a = false
+
+-- counts that come out of a fold: 0 to 2^62
+abbrev pub are_counts : DirAttr → Bool
+are_counts attr = nat_le attr.children (2 ^ 62) && nat_le attr.subdirs (2 ^ 62)
 
 abbrev pub lists : Ask → Answer → Bool
 -- reading
@@ -25,7 +30,7 @@ lists (ask.Look dir back) answer.NoDir = true
 lists (ask.Look dir back) (answer.Locked job) = true
 lists (ask.Look dir back) answer.Moved = true
 lists (ask.Look dir back) (answer.Leaving note) = true
-lists (ask.Look dir back) (answer.Attr attr) = true
+lists (ask.Look dir back) (answer.Attr attr) = are_counts attr
 -- primitives
 lists (ask.PutDir client at dir name) (answer.New (Dir child)) = true
 lists (ask.Insert client dir name node ts) answer.NoDir = true

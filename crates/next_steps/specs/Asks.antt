@@ -1,5 +1,5 @@
 -- The place of an ask, and the time that it has.
-use Rattle.std.specs.Prelude.{◌+◌, ◌%◌}
+use Rattle.std.specs.Prelude.{◌+◌, ◌%◌, Bool, true, ◌&&◌, nat_lt, nat_le}
 use Rattle.next_ids.specs.declared.ids.DirId.{DirId}
 use Rattle.next_ids.specs.declared.ids.Node.{Node}
 use Rattle.next_ids.specs.declared.ids.Node.TheVariants.{Dir, File}
@@ -62,6 +62,15 @@ place_of (ask.Collect job) = desk
 place_of (ask.Stop client) = roster
 place_of (ask.End client) = roster
 place_of ask.Stopped = roster
+
+-- whether an ask is one of those that places of its place's kind serve: places below 64 are shards, those below 128 stores
+abbrev pub suits : Ask → Bool
+suits (ask.PutDir client at dir name) = nat_lt at.0 64
+suits (ask.Clear at node) = nat_lt at.0 64
+suits (ask.Merge at) = nat_lt at.0 64
+suits (ask.Put client at home) = nat_le 64 at.0 && nat_lt at.0 128
+suits (ask.Strays at clients) = nat_lt at.0 128
+suits ask = true
 
 -- the time of an ask, for a put that of its step, which is `now`; others have none
 abbrev pub ts_in : (now : Ts) → Ask → Ts

@@ -1,11 +1,16 @@
 -- Clients by rising number.
-use Rattle.std.specs.Prelude.{◌<◌, List, [], ◌∷◌, Bool, false, nat_lt, ◌||◌, ◌==◌, if◌then◌else◌}
+use Rattle.std.specs.Prelude.{◌<◌, List, [], ◌∷◌, Bool, false, nat_lt, ◌||◌, ◌==◌, if◌then◌else◌, Option, Some, None}
 use Rattle.next_ids.specs.declared.ids.Client.{Client}
 
 -- the client's number is above those of the list
 abbrev pub IsAbove : List Client → Client → Type 0
 IsAbove [] client = Unit {0}
 IsAbove (c ∷ cs) client = (c.0 < client.0) × IsAbove cs client
+
+-- whether this is the client
+abbrev pub is_client : Client → Option Client → Bool
+is_client client None = false
+is_client client (Some held) = held.0 == client.0
 
 abbrev pub holds : List Client → Client → Bool
 holds [] client = false

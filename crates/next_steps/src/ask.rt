@@ -1,6 +1,7 @@
 //! What an actor asks of a place.
 ghost use Rattle.std.specs.Prelude.{◌≡◌, IfOk};
 ghost use Rattle.next_steps.specs.Asks.{place_of};
+ghost use Rattle.next_steps.specs.JobAsks.{drop_of};
 
 use crate::clients::ClientSet;
 use next_ids::{
@@ -241,6 +242,16 @@ pub fn home_of(node: Node) -> PlaceNo
     match node {
         Node::Dir(dir) => shard_of(dir),
         Node::File(FileId(file)) => PlaceNo(64 + (file % 64) as u32),
+    }
+}
+
+/// The ask that drops the record of a node.
+pub fn drop_of(node: Node) -> Ask
+    ensures { result ≡ drop_of node }
+{
+    match node {
+        Node::File(file) => Ask::Drop { file },
+        Node::Dir(dir) => Ask::DropRec { dir },
     }
 }
 

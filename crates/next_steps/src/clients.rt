@@ -1,7 +1,8 @@
 //! Sets of clients.
 ghost use Rattle.std.specs.Prelude.{◌≡◌, [], ◌∷◌, ◌++◌, length, slice_get, OnOk, OnErr, IfOk, IfErr};
 ghost use Rattle.std.specs.Option.{option_copied};
-ghost use Rattle.next_steps.specs.ClientSets.{IsAbove};
+ghost use Rattle.next_steps.specs.ClientSets as sets;
+ghost use Rattle.next_steps.specs.ClientSets.{IsAbove, is_client};
 
 use next_ids::{Client, NoMemory};
 use std::alloc::{AllocError, Global};
@@ -20,6 +21,28 @@ impl Model for ClientSet {
     ghost Value = { List Client };
 
     ghost view = { λ set. set.clients.items };
+}
+
+// Whether the i-th client of the set is this one.
+fn stands_at(clients: &ClientSet, i: usize, client: Client) -> bool
+    ensures { result ≡ is_client client (slice_get clients.now i) }
+{
+    match clients.get(i) {
+        Some(held) => held.0 == client.0,
+        None => false,
+    }
+}
+
+// Whether the set has the client.
+fn holds(clients: &ClientSet, client: Client) -> bool
+    ensures { result ≡ sets.holds clients.now client }
+{
+    for i in 0..clients.len() {
+        if stands_at(clients, i, client) {
+            return true;
+        }
+    }
+    false
 }
 
 impl ClientSet {
@@ -44,6 +67,13 @@ impl ClientSet {
         ensures { option_copied result ≡ slice_get self.now i }
     {
         self.clients.get(i)
+    }
+
+    /// Whether the set has the client.
+    pub fn has(&self, client: Client) -> bool
+        ensures { result ≡ sets.holds self.now client }
+    {
+        holds(self, client)
     }
 
     /// Adds a client, whose number is above the last. The Err is want of memory, and hands the client back.

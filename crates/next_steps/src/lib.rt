@@ -18,7 +18,7 @@ mod serve_fault;
 mod strays;
 
 pub use answer::Answer;
-pub use ask::{Ask, Want, home_of, shard_of};
+pub use ask::{Ask, Want, drop_of, home_of, shard_of};
 pub use call_done::{CallDone, CallList, ClientCalls};
 pub use clients::ClientSet;
 pub use contents::{Debt, DirRec, FileRec, Job, Row, RowLock};

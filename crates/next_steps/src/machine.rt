@@ -3,7 +3,6 @@ ghost use Rattle.std.specs.Prelude.{◌≡◌, ℕ, IsTrue, IfOk, OnOk, OnErr};
 ghost use Rattle.std.specs.Option.{option_copied};
 ghost use Rattle.next_ids.specs.declared.ids.Client.{Client};
 ghost use Rattle.next_ids.specs.declared.time.Ts.{Ts};
-ghost use Rattle.next_ids.specs.Times.{ts_at};
 ghost use Rattle.next_steps.specs.Asks.{place_of};
 ghost use Rattle.next_steps.specs.Answers.{lists};
 ghost use Rattle.next_steps.specs.Phases.{Phase};
@@ -35,11 +34,9 @@ pub trait Machine {
         requires { IsTrue (is_going (phase self.now)) }
         ensures { IfOk result (λ ask. ask ≡ ask_of (client self.now) (put_index self.now) last (phase self.now)) };
 
-    /// Takes the entry of the step that was asked at the entry's moment, whose answer is one that the tables list. On Err
-    /// the machine is as before.
+    /// Takes the entry of the step, whose answer is one that the tables list for its ask. On Err the machine is as before.
     fn hear(&mut self, place: PlaceNo, entry: &Entry) -> Result<(), NoMemory>
         requires going { IsTrue (is_going (phase self.old)) }
-        requires own { (last : ℕ) × (entry.now.ask ≡ ask_of (client self.old) (put_index self.old) (ts_at entry.now.moment last) (phase self.old)) }
         requires listed { IsTrue (lists entry.now.ask entry.now.answer) }
         ensures ok { OnOk result (phase self.new ≡ heard (phase self.old) place entry.now) }
         ensures err { OnErr result (phase self.new ≡ phase self.old) }

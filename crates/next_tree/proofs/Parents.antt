@@ -87,7 +87,7 @@ leads-up n whole k from at p apart h = same_truth (leads (suc k) n from at) (lea
     last (zero, small, chain) = absurd (apart chain)
     last (suc j, small, chain) =
         let l = chain-last j n.dirs from at chain in
-        let same = (whole.once l.0 p l.2.0 h.0 (Dir (record { 0 = at })) l.2.1 h.1).0 in
+        let same = (whole.once l.0 p l.2.0 h.0 (record { 0 = at }) l.2.1 h.1).0 in
         subst (λ d. leads k n from d ≡ true) same (leads-chain n j k from l.0 (omega arith) l.1)
 
     up : leads (suc k) n from at ≡ true → leads k n from p ≡ true

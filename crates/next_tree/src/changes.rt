@@ -1,7 +1,7 @@
 //! How parts of the namespace are set, and how a file is forgotten.
 ghost use Rattle.std.specs.Prelude.{◌≡◌, OnOk, OnErr, IsOk, IsSome, not, true, false};
 ghost use Rattle.std.specs.FinMap as map;
-ghost use Rattle.next_ids.specs.Namespace.{node_at, forget, is_listed, IsWhole};
+ghost use Rattle.next_ids.specs.Namespace.{node_at, forget, is_listed, IsWhole, IsNamedOnce};
 ghost use Rattle.next_tree.specs.Added.{with_dir, with_row, with_file, timed, named};
 
 use crate::directory::Directory;
@@ -49,12 +49,13 @@ fn set_time(
 
 impl Namespace {
     /// Takes the file out, and answers true. False comes exactly where a list names the file, and then nothing changes.
-    /// A whole namespace stays whole.
+    /// A whole namespace stays whole, and where no node has two names, none has two names then.
     pub fn forget(&mut self, file: FileId) -> bool
         ensures named { result ≡ not (is_listed self.old file.0) }
         ensures kept { result ≡ false → self.new ≡ self.old }
         ensures forgotten { result ≡ true → self.new ≡ forget self.old file.0 }
         ensures whole { IsWhole self.old → IsWhole self.new }
+        ensures once { IsNamedOnce self.old → IsNamedOnce self.new }
     {
         if self.is_named(file) {
             return false;

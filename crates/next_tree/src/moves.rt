@@ -2,7 +2,7 @@
 ghost use Rattle.std.specs.Prelude.{◌≡◌, OnOk, OnErr, IsOk, IsSome, false};
 ghost use Rattle.std.specs.FinMap as map;
 ghost use Rattle.next_ids.specs.declared.call.Reply.TheVariants.{Moved};
-ghost use Rattle.next_ids.specs.Namespace.{after, unlinked, removed, cut_to, renamed, with_name, name_set, name_cut, cut_file, without_dir, unlinked_in, removed_in, truncated, renamed_in, node_at, IsDefined, IsWhole};
+ghost use Rattle.next_ids.specs.Namespace.{after, unlinked, removed, cut_to, renamed, with_name, name_set, name_cut, cut_file, without_dir, unlinked_in, removed_in, truncated, renamed_in, node_at, IsDefined, IsWhole, IsNamedOnce};
 ghost use Rattle.next_tree.specs.Made.{IsNew, with_node, without_node, made};
 ghost use Rattle.next_tree.specs.Memory.{sets_name};
 
@@ -54,13 +54,15 @@ fn set_size(files: &mut NumberMap<FileFacts>, file: FileId, size: u64, time: Ts)
 
 impl Namespace {
     /// Makes the move of a call that is answered `Moved`, with the node that it made and its time. The Err is want of
-    /// memory, which none takes but those that set a name, and then nothing changed. A whole namespace stays whole.
+    /// memory, which none takes but those that set a name, and then nothing changed. A whole namespace stays whole,
+    /// and where no node of it has two names, none has two names then.
     pub fn apply(&mut self, call: &Call, made: Option<Node>, time: Ts) -> Result<(), NoMemory>
         requires { IsDefined self.old call.now made }
         ensures ok { OnOk result (self.new ≡ after self.old call.now made time) }
         ensures err { OnErr result (self.new ≡ self.old) }
         ensures sure { sets_name call.now ≡ false → IsOk result }
         ensures whole { IsWhole self.old → IsWhole self.new }
+        ensures once { IsWhole self.old → IsNamedOnce self.old → IsNamedOnce self.new }
     {
         self.make_move(call, made, time)
     }

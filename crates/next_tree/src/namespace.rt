@@ -1,7 +1,7 @@
 //! The sequential namespace.
 ghost use Rattle.std.specs.Prelude.{◌≡◌, IfOk};
 ghost use Rattle.std.specs.FinMap as map;
-ghost use Rattle.next_ids.specs.Namespace.{empty_root, IsWhole};
+ghost use Rattle.next_ids.specs.Namespace.{empty_root, IsWhole, IsNamedOnce};
 
 use crate::directory::Directory;
 use crate::file::FileFacts;
@@ -45,6 +45,7 @@ impl Namespace {
     pub fn empty_root(alloc: Global) -> Result<Namespace, NoMemory>
         ensures root { IfOk result (λ namespace. namespace ≡ empty_root) }
         ensures whole { IfOk result (λ namespace. IsWhole namespace) }
+        ensures once { IfOk result (λ namespace. IsNamedOnce namespace) }
     {
         let start = Ts {
             moment: 0,

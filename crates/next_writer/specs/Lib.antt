@@ -1,2 +1,3 @@
+pub mod Jobs
 pub mod Writers
 pub mod WriterViews

@@ -2,6 +2,7 @@
 ghost use Rattle.std.specs.Prelude.{◌≡◌, ◌<◌, IsTrue, IfOk, IsOk, None};
 ghost use Rattle.next_steps.specs.Phases.{Asking};
 ghost use Rattle.next_steps.specs.Calls.{begun_of};
+ghost use Rattle.next_writer.specs.Jobs.{job_of};
 ghost use Rattle.next_writer.specs.Writers.{phase_of, is_writing, call_of};
 
 use crate::asks::{ask_in, place_in};
@@ -9,7 +10,7 @@ use crate::calls::{Names, Writing};
 use crate::heard::after;
 use crate::state::WriterState;
 use next_ends::{stamp_of, ts_of};
-use next_ids::{Call, Client, NoMemory, PlaceNo, Stamp, Ts};
+use next_ids::{Call, Client, JobNo, NoMemory, PlaceNo, Stamp, Ts};
 use next_steps::{Ask, CallDone, Entry, Machine};
 
 /// A create, mkdir, unlink, truncate or rename on its way. `put_index` is the index of the store of its file, or of the
@@ -84,6 +85,16 @@ impl Writer {
                 let names = renaming.names.copy()?;
                 Ok(Some((names.into_call(), renaming.first)))
             }
+        }
+    }
+
+    /// The job that the call has submitted and not collected. None comes exactly where there is none.
+    pub fn job(&self) -> Option<JobNo>
+        ensures { result ≡ job_of (phase_in self.now) }
+    {
+        match &self.state {
+            WriterState::Collecting { job, .. } => Some(*job),
+            _ => None,
         }
     }
 }
