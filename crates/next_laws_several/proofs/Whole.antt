@@ -49,19 +49,19 @@ module _ {A K X : Type 0} {R : K → K → Ordering} (f : A → FinMap R X) wher
       ∙ gathered-set o same home (map f xs) i (f x) w (let count = length-map xs f in omega arith) h m.own m.here m.there
 
 -- ---- shards
-own_rows : (first : ℕ) (ss : List Shard) → AreOwnShards first ss → LieFrom home_of_row first (map (λ (s : Shard). s.rows) ss)
+pub own_rows : (first : ℕ) (ss : List Shard) → AreOwnShards first ss → LieFrom home_of_row first (map (λ (s : Shard). s.rows) ss)
 own_rows first [] h = tt
 own_rows first (s ∷ ss) h = (h.0.rows, own_rows (suc first) ss h.1)
 
-own_recs : (first : ℕ) (ss : List Shard) → AreOwnShards first ss → LieFrom home_of_number first (map (λ (s : Shard). s.recs) ss)
+pub own_recs : (first : ℕ) (ss : List Shard) → AreOwnShards first ss → LieFrom home_of_number first (map (λ (s : Shard). s.recs) ss)
 own_recs first [] h = tt
 own_recs first (s ∷ ss) h = (h.0.recs, own_recs (suc first) ss h.1)
 
-own_locks : (first : ℕ) (ss : List Shard) → AreOwnShards first ss → LieFrom home_of_row first (map (λ (s : Shard). s.locks) ss)
+pub own_locks : (first : ℕ) (ss : List Shard) → AreOwnShards first ss → LieFrom home_of_row first (map (λ (s : Shard). s.locks) ss)
 own_locks first [] h = tt
 own_locks first (s ∷ ss) h = (h.0.locks, own_locks (suc first) ss h.1)
 
-own_debts : (first : ℕ) (ss : List Shard) → AreOwnShards first ss → LieFrom home_of_debt first (map (λ (s : Shard). s.debts) ss)
+pub own_debts : (first : ℕ) (ss : List Shard) → AreOwnShards first ss → LieFrom home_of_debt first (map (λ (s : Shard). s.debts) ss)
 own_debts first [] h = tt
 own_debts first (s ∷ ss) h = (h.0.debts, own_debts (suc first) ss h.1)
 

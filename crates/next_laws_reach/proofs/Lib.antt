@@ -1,0 +1,12 @@
+pub mod Maps
+pub mod There
+pub mod Changes
+pub mod Strays
+pub mod Shards
+pub mod Services
+pub mod Asked
+pub mod Heard
+pub mod Jobs
+pub mod Rounds
+pub mod Plans
+pub mod Turns
