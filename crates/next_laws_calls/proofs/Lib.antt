@@ -1,0 +1,11 @@
+pub mod Changing
+pub mod Cuts
+pub mod Frame
+pub mod Grown
+pub mod Helping
+pub mod Readers
+pub mod Removers
+pub mod Steps
+pub mod Writers
+pub mod Turns
+pub mod Runs

@@ -1,0 +1,4 @@
+pub mod Claimed
+pub mod Holding
+pub mod Plain
+pub mod Worlds

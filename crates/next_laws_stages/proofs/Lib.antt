@@ -1,0 +1,17 @@
+pub mod Allowed
+pub mod Counts
+pub mod Cuts
+pub mod Effects
+pub mod Free
+pub mod Inserts
+pub mod Known
+pub mod Listings
+pub mod Made
+pub mod Maps
+pub mod Moves
+pub mod Openings
+pub mod Records
+pub mod Replies
+pub mod Stages
+pub mod Shown
+pub mod OpeningTree

@@ -1,0 +1,13 @@
+pub mod Runs
+pub mod SameCall
+pub mod Keys
+pub mod Pasts
+pub mod Steps
+pub mod Turns
+pub mod AllLines
+pub mod Callers
+pub mod Ordered
+pub mod Orders
+pub mod Moves
+pub mod Replies
+pub mod Histories

@@ -1,0 +1,2 @@
+pub mod LiveNames
+pub mod Upward
