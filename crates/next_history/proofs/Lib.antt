@@ -1,0 +1,4 @@
+pub mod SlotLemmas
+pub mod ForgottenLemmas
+pub mod IndexLemmas
+pub mod ClientLemmas

@@ -1,0 +1,6 @@
+pub mod Changing
+pub mod Composing
+pub mod Finding
+pub mod OneOfSeveral
+pub mod Openings
+pub mod Serving

@@ -1,0 +1,5 @@
+pub mod Folding
+pub mod RowWalks
+pub mod WholeChecks
+pub mod WholeCounts
+pub mod WholeLive

@@ -1,0 +1,9 @@
+use Rattle.std.proofs.Common.{drop, ◌≡◌, map}
+use Rattle.next_rules.specs.Several.{contents_in}
+use Rattle.next_view.specs.Checks.{any_miscounts}
+use Rattle.next_places.specs.PlaceLists.{shard_items}
+use Rattle.next_places.specs.PlaceViews.{shard_view}
+use Rattle.next_view.proofs.checks.any_miscounts.Given as goal
+
+abbrev pub invariant-loop-place : goal.invariant-loop-place
+invariant-loop-place l = any_miscounts (contents_in (map shard_view (shard_items l.places))) (contents_in (map shard_view (shard_items l.places))) ≡ any_miscounts (contents_in (map shard_view (shard_items l.places))) (contents_in (map shard_view (shard_items (drop l.place-index l.places))))

@@ -1,0 +1,13 @@
+use Rattle.std.proofs.Common.{sym, ◌∙◌}
+use Rattle.next_rules.specs.Several.{contents_in}
+use Rattle.next_places.specs.Views.{shards_of, stores_of}
+use Rattle.next_view.proofs.WholeChecks.{attributes_sound, attributes_complete, turned_true, turned_false}
+use Rattle.next_view.proofs.checks.attributes_hold.Goals as goal
+
+pub returns : goal.returns
+returns c =
+    let ss = contents_in (shards_of c.args.places.now) in
+    let ts = contents_in (stores_of c.args.places.now) in
+    let own = c.requires.all.shards.own in
+    let tested = rw c.as_slice.ensures at c.any_lacks.ensures in
+    ((λ h. attributes_sound ss ts own (sym tested ∙ turned_true _ h)), (λ h. turned_false _ (tested ∙ attributes_complete ss ts own h)))
