@@ -1,0 +1,10 @@
+pub mod Clients
+pub mod Left
+pub mod Plans
+pub mod Programs
+pub mod Replies
+pub mod States
+pub mod Jobs
+pub mod Rounds
+pub mod Standings
+pub mod ActorStates

@@ -1,0 +1,89 @@
+//! The state of the Renamer.
+ghost use Rattle.std.specs.Prelude.{◌≡◌, IsTrue, IfOk, IsOk, OnOk};
+ghost use Rattle.next_steps.specs.Asks.{place_of};
+ghost use Rattle.next_steps.specs.JobAsks.{ask_job};
+ghost use Rattle.next_steps.specs.JobPhases.{Waiting};
+ghost use Rattle.next_steps.specs.Jobs.{heard_job};
+ghost use Rattle.next_actor.specs.States.{is_last};
+
+use crate::kept::KeptEntry;
+use next_ids::{NoMemory, PlaceNo, Ts};
+use next_renamer::RenamerState;
+use next_steps::{Ask, Entry};
+
+/// The Renamer, with its last number. After a step it keeps the entry until `settle` works it in; as contracts see it, that
+/// was done at once.
+#[derive(Drop)]
+pub struct JobState {
+    renamer: RenamerState,
+    last: u64,
+    kept: Option<KeptEntry>,
+    ghost stamped: { IsTrue (is_last kept last) },
+}
+
+impl JobState {
+    ghost use Rattle.next_actor.specs.Jobs.{phase_of, last_of, is_settled};
+
+    /// The Renamer before its first job.
+    pub fn new() -> JobState
+        ensures phase { phase_of result ≡ Waiting }
+        ensures last { last_of result ≡ 0 }
+    {
+        JobState {
+            renamer: RenamerState::new(),
+            last: 0,
+            kept: None,
+        }
+    }
+
+    /// The Renamer's last number, 0 before its first step.
+    pub fn last(&self) -> u64
+        ensures { result ≡ last_of self.now }
+    {
+        self.last
+    }
+
+    /// The place of the next ask. It takes no memory.
+    pub fn next_place(&self) -> PlaceNo
+        requires { IsTrue (is_settled self.now) }
+        ensures { result ≡ place_of (ask_job (phase_of self.now)) }
+    {
+        self.renamer.next_place()
+    }
+
+    /// The next ask, at this moment. The Err is want of memory.
+    pub fn ask(&self, moment: u64) -> Result<Ask, NoMemory>
+        requires { IsTrue (is_settled self.now) }
+        ensures { IfOk result (λ ask. ask ≡ ask_job (phase_of self.now)) }
+    {
+        self.renamer.ask(Ts {
+            moment,
+            number: self.last,
+        })
+    }
+
+    /// Takes the entry of the step that was asked; it takes no memory.
+    pub fn hear(&mut self, place: PlaceNo, entry: Entry)
+        requires { IsTrue (is_settled self.old) }
+        ensures phase { phase_of self.new ≡ heard_job (phase_of self.old) place entry }
+        ensures last { last_of self.new ≡ entry.number }
+    {
+        self.last = entry.number;
+        self.kept = Some(KeptEntry { place, entry });
+    }
+
+    /// Works a kept entry in. On Err it is still kept. The Renamer needs no memory where it is settled.
+    pub fn settle(&mut self) -> Result<(), NoMemory>
+        ensures phase { phase_of self.new ≡ phase_of self.old }
+        ensures last { last_of self.new ≡ last_of self.old }
+        ensures settled { OnOk result (IsTrue (is_settled self.new)) }
+        ensures sure { IsTrue (is_settled self.old) → IsOk result }
+    {
+        let Some(kept) = &self.kept else {
+            return Ok(());
+        };
+        self.renamer.hear(kept.place, &kept.entry)?;
+        self.kept = None;
+        Ok(())
+    }
+}

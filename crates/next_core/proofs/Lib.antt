@@ -1,0 +1,17 @@
+mod Truths
+mod Same
+mod Casting
+mod Alike
+mod Weaving
+mod Turns
+mod Lasts
+mod Counting
+mod Counted
+mod Reaching
+mod Opened
+mod Positions
+mod Entries
+mod Among
+mod Ends
+mod Remaining
+mod Settling
