@@ -1,0 +1,7 @@
+pub mod Lines
+pub mod Numbers
+pub mod Orders
+pub mod Outcomes
+pub mod Paths
+pub mod Turns
+pub mod Words

@@ -1,0 +1,9 @@
+pub mod Cutting
+pub mod Ending
+pub mod Parting
+pub mod FirstGot
+pub mod Given
+pub mod Going
+pub mod Told
+pub mod ToldLines
+pub mod Written

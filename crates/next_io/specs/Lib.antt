@@ -1,0 +1,10 @@
+pub mod Ahead
+pub mod AheadFields
+pub mod Causes
+pub mod Ends
+pub mod Input
+pub mod Lines
+pub mod Memory
+pub mod Output
+pub mod Parts
+pub mod Unread

@@ -1,0 +1,5 @@
+pub mod Breaks
+pub mod Forms
+pub mod Outcomes
+pub mod Pieces
+pub mod Scripts
