@@ -1,0 +1,4 @@
+pub mod Passed
+pub mod Walked
+pub mod Naming
+pub mod Counts
